@@ -1,0 +1,97 @@
+-- Document 01, "Answer numbers": what each answer is given for, and the orders.
+use mathlib.Core.Bool.{Bool, true, false, not, _&&_, _||_, cond}
+use mathlib.Core.List.{List, [], _∷_}
+use Prim.Native.Nat.{ℕ}
+use lib.IntN.{ℤ, pos}
+use lib.Dec.{ltb}
+use lib.Signed.{leZ, ltZ}
+use lib.ListN.{length}
+use Rattle.lists.specs.Plain.{same, within, any, filter, positions}
+use Rattle.paper.specs.Limits.{extentFits, lowerFits, strideFits, coordinateFits}
+use Rattle.paper.specs.Descriptor.{addressed, outside, at}
+use Rattle.paper.specs.declared.Descriptor.{Descriptor}
+use Rattle.paper.specs.declared.Segment.{Segment}
+use Rattle.paper.specs.declared.Window.{Window}
+use Rattle.paper.specs.declared.Reply.{Reply}
+
+-- an answer of the table: whether it is given, and the count and the position that it returns; 0 unless named
+pub record Answer : Type 0 where
+  pub number : ℕ
+  pub given : Bool
+  pub count : ℕ
+  pub position : ℕ
+
+abbrev pub answer : ℕ → Bool → Answer
+answer number given = record { number = number; given = given; count = 0; position = 0 }
+
+-- given where there is such a position; the first is returned
+abbrev pub answerAt : ℕ → List ℕ → Answer
+answerAt number [] = answer number false
+answerAt number (p ∷ ps) = record { number = number; given = true; count = 0; position = p }
+
+-- the positions whose segment passes a test, ascending
+abbrev pub positionsOf : (Segment → Bool) → List Segment → List ℕ
+positionsOf q segments = filter (λ p. q (at segments p)) (positions (length segments))
+
+-- ---- given exactly when
+
+-- 1: kind is not 1 to 3
+abbrev pub badKind : ℤ → Answer
+badKind kind = answer 1 (not (within (pos 1) (pos 3) kind))
+
+-- 2: lower bound beyond its limits, or kind 3 and not 0
+abbrev pub badLower : ℤ → ℤ → Answer
+badLower kind lower = answer 2 (not (lowerFits lower) || (same kind (pos 3) && not (same lower (pos 0))))
+
+-- 3: n beyond its limits
+abbrev pub badExtent : ℤ → Answer
+badExtent n = answer 3 (not (extentFits n))
+
+-- 4: a stride beyond its limits, or an addressed cell outside the table
+abbrev pub badCells : ℤ → Descriptor → Answer
+badCells len d =
+    answer 4 (not (strideFits (d .«segment_stride»)) || not (strideFits (d .«coordinate_stride»)) || any (outside len) (addressed d))
+
+-- 5: a coordinate beyond its limits; first such position returned
+abbrev pub farOff : Segment → Bool
+farOff s = not (coordinateFits (s .x1) && coordinateFits (s .y1) && coordinateFits (s .x2) && coordinateFits (s .y2))
+
+abbrev pub badCoordinate : List Segment → Answer
+badCoordinate segments = answerAt 5 (positionsOf farOff segments)
+
+-- 6: builder only: a segment neither horizontal nor vertical; first such position returned
+abbrev pub slanted : Segment → Bool
+slanted s = not (same (s .y1) (s .y2)) && not (same (s .x1) (s .x2))
+
+abbrev pub badSlant : List Segment → Answer
+badSlant segments = answerAt 6 (positionsOf slanted segments)
+
+-- 7: index buffer below W(n) words, or number buffer below n cells; what is asked and what is lent
+abbrev pub badBuffer : ℕ → ℕ → Answer
+badBuffer asked lent = answer 7 (ltb lent asked)
+
+-- 8: a > b, c > d, or an edge beyond its limits
+abbrev pub badWindow : Window → Answer
+badWindow w =
+    answer 8
+    (ltZ (w .b) (w .a) || ltZ (w .d) (w .c)
+    || not (coordinateFits (w .a) && coordinateFits (w .b) && coordinateFits (w .c) && coordinateFits (w .d)))
+
+-- 9 and 10 are in Orders, above the words and the walk that they speak of
+
+-- 11: C only: position not in 0 to n − 1, or coordinate not in 0 to 3
+abbrev pub badPlace : ℤ → ℤ → ℤ → Answer
+badPlace n i j = answer 11 (ltZ i (pos 0) || leZ n i || not (within (pos 0) (pos 3) j))
+
+-- ---- an order is a list: the first that is given decides; where none is, the call is done
+abbrev pub judged {ℓ} : {A : Type ℓ} → List Answer → (Answer → A) → A → A
+judged [] refuse done = done
+judged (x ∷ xs) refuse done = cond (x .given) (refuse x) (judged xs refuse done)
+
+-- a refusal's reply
+abbrev pub refused : Answer → Reply
+refused x = record { number = pos (x .number); count = pos (x .count); visits = pos 0; position = pos (x .position) }
+
+-- on success position is 0
+abbrev pub done : ℕ → ℕ → Reply
+done count visits = record { number = pos 0; count = pos count; visits = pos visits; position = pos 0 }

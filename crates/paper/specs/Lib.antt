@@ -1,0 +1,16 @@
+-- Document 01. To be believed: `lists`' Plain (words of everyday use), then these, a module for each heading and in the document's order.
+pub mod Limits
+pub mod Descriptor
+pub mod Meeting
+pub mod Answers
+pub mod Words
+pub mod Walk
+pub mod Orders
+pub mod Results
+pub mod Hosts
+pub mod Lines
+pub mod Demands
+-- Not to be believed but checked: a test of meeting, and examples that antt computes.
+pub mod Corners
+pub mod Rows
+pub mod Examples

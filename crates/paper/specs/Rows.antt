@@ -1,0 +1,164 @@
+-- Examples as rows of a table: what a row says, a test of it that antt computes, and that a table whose rows all pass says true things.
+-- Meaning is in `Says` alone; the rest is proof.
+use mathlib.Core.Path.{_≡_, refl, ap, ap₂}
+use mathlib.Core.Bool.{Bool, true, false, _&&_}
+use mathlib.Core.List.{List, [], _∷_}
+use Prim.Native.Nat.{ℕ}
+use native.Mathlib.Omega.{arith}
+use lib.Dec.{T, leb, leb→le, eqb, eqb→eq}
+use lib.IntN.{ℤ, pos, negsuc, negℤ}
+use Rattle.lists.specs.Plain.{same}
+use Rattle.paper.specs.Words.{W}
+use Rattle.paper.specs.Results.{Result, built, queried, scanned}
+use Rattle.paper.specs.Hosts.{hostCell, hostWords, hostMeet}
+use Rattle.paper.specs.Lines.{program}
+use Rattle.paper.specs.Corners.{weighed}
+use Rattle.paper.specs.declared.Descriptor.{Descriptor}
+use Rattle.paper.specs.declared.Segment.{Segment}
+use Rattle.paper.specs.declared.Window.{Window}
+use Rattle.paper.specs.declared.Reply.{Reply}
+
+pub data Row : Type 0 where
+  -- a builder's call, and its result
+  build : List ℤ → Descriptor → List ℤ → Result → Row
+  -- a query's call, and its result
+  query : List ℤ → Window → List ℤ → Result → Row
+  -- a query of the index that a builder's call wrote
+  ask : List ℤ → Descriptor → List ℤ → Window → List ℤ → Result → Row
+  -- a scan's call, by the corner test, and its result
+  scan : List ℤ → Descriptor → Window → List ℤ → Result → Row
+  -- W(n)
+  words : ℕ → ℕ → Row
+  -- a C host's call for the cell of a position and coordinate: length, base, n, strides, position, coordinate
+  cell : (len base n segment coordinate i j : ℤ) → ℤ → Row
+  -- a C host's call for W(n)
+  wordsToC : ℤ → ℤ → Row
+  -- a C host's call for one segment and one window, by the corner test
+  meetToC : Segment → Window → ℤ → Row
+  -- the program's input and what it prints
+  prints : List ℕ → List ℕ → Row
+
+abbrev pub Says : Row → Type 0
+Says (build table d index r) = built table d index ≡ r
+Says (query ws w numbers r) = queried ws w numbers ≡ r
+Says (ask table d index w numbers r) = queried (built table d index .1) w numbers ≡ r
+Says (scan table d w numbers r) = scanned (weighed w) table d w numbers ≡ r
+Says (words n k) = W n ≡ k
+Says (cell len base n segment coordinate i j r) = hostCell len base n segment coordinate i j ≡ r
+Says (wordsToC n r) = hostWords n ≡ r
+Says (meetToC s w r) = hostMeet (weighed w) s w ≡ r
+Says (prints text r) = program text ≡ r
+
+-- ---- the test
+
+abbrev pub sameList : List ℤ → List ℤ → Bool
+sameList [] [] = true
+sameList [] (y ∷ ys) = false
+sameList (x ∷ xs) [] = false
+sameList (x ∷ xs) (y ∷ ys) = same x y && sameList xs ys
+
+abbrev pub sameBytes : List ℕ → List ℕ → Bool
+sameBytes [] [] = true
+sameBytes [] (y ∷ ys) = false
+sameBytes (x ∷ xs) [] = false
+sameBytes (x ∷ xs) (y ∷ ys) = eqb x y && sameBytes xs ys
+
+abbrev pub sameReply : Reply → Reply → Bool
+sameReply r s = same (r .number) (s .number) && (same (r .count) (s .count) && (same (r .visits) (s .visits) && same (r .position) (s .position)))
+
+abbrev pub sameResult : Result → Result → Bool
+sameResult r s = sameReply (r .0) (s .0) && sameList (r .1) (s .1)
+
+abbrev pub holds : Row → Bool
+holds (build table d index r) = sameResult (built table d index) r
+holds (query ws w numbers r) = sameResult (queried ws w numbers) r
+holds (ask table d index w numbers r) = sameResult (queried (built table d index .1) w numbers) r
+holds (scan table d w numbers r) = sameResult (scanned (weighed w) table d w numbers) r
+holds (words n k) = eqb (W n) k
+holds (cell len base n segment coordinate i j r) = same (hostCell len base n segment coordinate i j) r
+holds (wordsToC n r) = same (hostWords n) r
+holds (meetToC s w r) = same (hostMeet (weighed w) s w) r
+holds (prints text r) = sameBytes (program text) r
+
+-- ---- a test that passes says a true thing
+
+both : (x y : Bool) → T (x && y) → T x × T y
+both true y t = (tt, t)
+both false y t = absurd t
+
+pub same-eq : (y z : ℤ) → T (same y z) → y ≡ z
+same-eq (pos m) (pos n) t = let b = both (leb m n) (leb n m) t in ap {B = ℤ} (λ k. pos k) (omega (arith, leb→le m n (b .0), leb→le n m (b .1)))
+same-eq (pos m) (negsuc n) t = absurd t
+same-eq (negsuc m) (pos n) t = absurd t
+same-eq (negsuc m) (negsuc n) t = let b = both (leb n m) (leb m n) t in ap {B = ℤ} (λ k. negsuc k) (omega (arith, leb→le n m (b .0), leb→le m n (b .1)))
+
+pub list-eq : (xs ys : List ℤ) → T (sameList xs ys) → xs ≡ ys
+list-eq [] [] t = refl
+list-eq [] (y ∷ ys) t = absurd t
+list-eq (x ∷ xs) [] t = absurd t
+list-eq (x ∷ xs) (y ∷ ys) t = let b = both (same x y) (sameList xs ys) t in ap₂ (λ (u : ℤ) (v : List ℤ). u ∷ v) (same-eq x y (b .0)) (list-eq xs ys (b .1))
+
+pub bytes-eq : (xs ys : List ℕ) → T (sameBytes xs ys) → xs ≡ ys
+bytes-eq [] [] t = refl
+bytes-eq [] (y ∷ ys) t = absurd t
+bytes-eq (x ∷ xs) [] t = absurd t
+bytes-eq (x ∷ xs) (y ∷ ys) t = let b = both (eqb x y) (sameBytes xs ys) t in ap₂ (λ (u : ℕ) (v : List ℕ). u ∷ v) (eqb→eq x y (b .0)) (bytes-eq xs ys (b .1))
+
+reply-eq : (r s : Reply) → T (sameReply r s) → r ≡ s
+reply-eq r s t =
+    let a = both (same (r .number) (s .number)) _ t in
+    let b = both (same (r .count) (s .count)) _ (a .1) in
+    let c = both (same (r .visits) (s .visits)) _ (b .1) in
+    let e = same-eq (r .number) (s .number) (a .0) in
+    let f = same-eq (r .count) (s .count) (b .0) in
+    let g = same-eq (r .visits) (s .visits) (c .0) in
+    let h = same-eq (r .position) (s .position) (c .1) in
+    λ i. record { number = e i; count = f i; visits = g i; position = h i }
+
+result-eq : (r s : Result) → T (sameResult r s) → r ≡ s
+result-eq r s t =
+    let b = both (sameReply (r .0) (s .0)) (sameList (r .1) (s .1)) t in
+    λ i. (reply-eq (r .0) (s .0) (b .0) i, list-eq (r .1) (s .1) (b .1) i)
+
+pub row-says : (r : Row) → T (holds r) → Says r
+row-says (build table d index r) t = result-eq (built table d index) r t
+row-says (query ws w numbers r) t = result-eq (queried ws w numbers) r t
+row-says (ask table d index w numbers r) t = result-eq (queried (built table d index .1) w numbers) r t
+row-says (scan table d w numbers r) t = result-eq (scanned (weighed w) table d w numbers) r t
+row-says (words n k) t = eqb→eq (W n) k t
+row-says (cell len base n segment coordinate i j r) t = same-eq (hostCell len base n segment coordinate i j) r t
+row-says (wordsToC n r) t = same-eq (hostWords n) r t
+row-says (meetToC s w r) t = same-eq (hostMeet (weighed w) s w) r t
+row-says (prints text r) t = bytes-eq (program text) r t
+
+abbrev pub All : List Row → Type 0
+All [] = Unit {0}
+All (r ∷ rs) = Says r × All rs
+
+abbrev pub all : List Row → Bool
+all [] = true
+all (r ∷ rs) = holds r && all rs
+
+pub every : (rs : List Row) → T (all rs) → All rs
+every [] t = tt
+every (r ∷ rs) t = let b = both (holds r) (all rs) t in (row-says r (b .0), every rs (b .1))
+
+-- ---- short forms for rows
+
+abbrev pub + : ℕ → ℤ
++ n = pos n
+
+abbrev pub - : ℕ → ℤ
+- n = negℤ (pos n)
+
+abbrev pub descriptor : (kind base lower extent segment coordinate : ℤ) → Descriptor
+descriptor kind base lower extent segment coordinate = record { kind = kind; base = base; lower = lower; extent = extent; «segment_stride» = segment; «coordinate_stride» = coordinate }
+
+abbrev pub segment : (x1 y1 x2 y2 : ℤ) → Segment
+segment x1 y1 x2 y2 = record { x1 = x1; y1 = y1; x2 = x2; y2 = y2 }
+
+abbrev pub window : (a b c d : ℤ) → Window
+window a b c d = record { a = a; b = b; c = c; d = d }
+
+abbrev pub reply : (number count visits position : ℤ) → Reply
+reply number count visits position = record { number = number; count = count; visits = visits; position = position }
