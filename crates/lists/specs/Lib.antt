@@ -1,2 +1,11 @@
 -- The general theory of lists. `Plain` has the definitions, and is to be believed; the others prove laws of them.
 pub mod Plain
+pub mod Tests
+pub mod Orders
+pub mod Every
+pub mod Counting
+pub mod Sorting
+pub mod Halves
+pub mod Digits
+pub mod Parts
+pub mod Searching
