@@ -80,6 +80,16 @@ module _ {A : Type 0} where
       go true false f e = absurd (f tt)
       go false t f e = omega (arith, gate-le t 1)
 
+  -- those that pass and those that fail are all
+  pub count-parts : (q : A → Bool) (l : List A) → count q l + count (λ x. not (q x)) l ≡ length l
+  unfolding count
+  count-parts q [] = refl
+  count-parts q (x ∷ l) = omega (arith, count-parts q l, one (q x))
+    where
+      one : (b : Bool) → gate b 1 + gate (not b) 1 ≡ 1
+      one true = refl
+      one false = refl
+
   -- ---- what passes a test
   pub filter-count : (q t : A → Bool) (l : List A) → count q (filter t l) ≡ count (λ x. q x && t x) l
   unfolding count filter

@@ -4,6 +4,7 @@ pub mod Tests
 pub mod Orders
 pub mod Every
 pub mod Counting
+pub mod Positions
 pub mod Sorting
 pub mod Halves
 pub mod Digits

@@ -106,6 +106,12 @@ pub neither : (p q : Bool) → T (not p) → T (not q) → T (not (p || q))
 neither true q g k = g
 neither false q g k = k
 
+-- a flag a that b may lower: what holds where the flag was down, and where b holds, holds where it is down now
+pub by-flag : {X : Type 0} (a b : Bool) → (T (not a) → X) → (T b → X) → T (not (a && not b)) → X
+by-flag true true f g h = g tt
+by-flag true false f g h = absurd h
+by-flag false b f g h = f tt
+
 -- ---- numbers behind a test
 
 -- n where b holds, otherwise 0
@@ -135,3 +141,16 @@ gate-none false n h e = omega arith
 pub gate-add : (b : Bool) (m n : ℕ) → gate b (m + n) ≡ gate b m + gate b n
 gate-add true m n = refl
 gate-add false m n = refl
+
+pub gate-yes : (b : Bool) (n : ℕ) → T b → gate b n ≡ n
+gate-yes true n h = refl
+gate-yes false n h = absurd h
+
+pub gate-no : (b : Bool) (n : ℕ) → T (not b) → gate b n ≡ 0
+gate-no true n h = absurd h
+gate-no false n h = refl
+
+-- what is counted as 0 fails
+pub gate-closed : (b : Bool) → gate b 1 ≡ 0 → T (not b)
+gate-closed true e = absurd (omega arith)
+gate-closed false e = tt
