@@ -10,3 +10,4 @@ pub mod Halves
 pub mod Digits
 pub mod Parts
 pub mod Searching
+pub mod Choosing

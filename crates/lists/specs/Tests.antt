@@ -6,6 +6,9 @@ use mathlib.Core.Bool.{Bool, true, false, not, _&&_, _||_, cond}
 use Prim.Native.Nat.{ℕ, _+_, _≤_}
 use native.Mathlib.Omega.{arith}
 use lib.Dec.{T}
+use lib.IntN.{ℤ}
+use lib.Signed.{leZ, _≤ℤ_}
+use Rattle.lists.specs.Plain.{within}
 
 -- what holds on either side of a test holds of the choice
 pub cases {ℓ κ} : {X : Type ℓ} (P : X → Type κ) (b : Bool) (u v : X) → (T b → P u) → (T (not b) → P v) → P (cond b u v)
@@ -105,6 +108,34 @@ or-more false q h = h
 pub neither : (p q : Bool) → T (not p) → T (not q) → T (not (p || q))
 neither true q g k = g
 neither false q g k = k
+
+-- the same by equations
+pub or-false : (p q : Bool) → (p || q) ≡ false → (p ≡ false) × (q ≡ false)
+or-false true q e = clash e
+or-false false q e = (refl, e)
+
+pub and-true : (p q : Bool) → (p && q) ≡ true → (p ≡ true) × (q ≡ true)
+and-true true q e = (refl, e)
+and-true false q e = clash (sym e)
+
+pub or-left : {p : Bool} (q : Bool) → p ≡ true → (p || q) ≡ true
+or-left q e = rw e refl
+
+pub or-right : (p : Bool) {q : Bool} → q ≡ true → (p || q) ≡ true
+or-right true e = refl
+or-right false e = e
+
+pub or-assoc : (p q r : Bool) → (p || (q || r)) ≡ (p || q || r)
+or-assoc true q r = refl
+or-assoc false q r = refl
+
+pub or-none : (p : Bool) → (p || false) ≡ p
+or-none true = refl
+or-none false = refl
+
+-- lo ≤ z ≤ hi as orders
+pub within-true : (lo hi z : ℤ) → within lo hi z ≡ true → (lo ≤ℤ z) × (z ≤ℤ hi)
+within-true lo hi z e = let p = and-true (leZ lo z) (leZ z hi) e in (record { le = holds (p .0) }, record { le = holds (p .1) })
 
 -- a flag a that b may lower: what holds where the flag was down, and where b holds, holds where it is down now
 pub by-flag : {X : Type 0} (a b : Bool) → (T (not a) → X) → (T b → X) → T (not (a && not b)) → X
