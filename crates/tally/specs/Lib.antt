@@ -1,0 +1,4 @@
+-- What the code keeps of a walk, and how it reads words.
+pub mod State
+pub mod Reads
+pub mod Fold
