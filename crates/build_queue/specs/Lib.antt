@@ -1,0 +1,4 @@
+-- The laws of a queue's words that its builder rests on.
+pub mod Taking
+pub mod Queues
+pub mod Runs
