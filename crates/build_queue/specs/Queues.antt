@@ -17,7 +17,7 @@ use Rattle.paper.specs.declared.Segment.{Segment}
 use Rattle.paper.specs.Words.{Axis, End, nearOf, farOf, levelOf, takenBefore, taken, others, splitOf, queueWordsTo, queueWords}
 
 -- which default is given does not matter within a list
-within-any : {A : Type 0} (l : List A) (i : ℕ) (d e : A) → i < length l → getD l i d ≡ getD l i e
+pub within-any : {A : Type 0} (l : List A) (i : ℕ) (d e : A) → i < length l → getD l i d ≡ getD l i e
 within-any [] i d e h = absurd (omega arith)
 within-any (x ∷ l) zero d e h = refl
 within-any (x ∷ l) (suc i) d e h = within-any l i d e (omega arith)

@@ -32,7 +32,7 @@ module _ {A : Type 0} where
   without-all : {P : A → Type 0} (b : ℕ) {xs : List A} → All P xs → All P (without b xs)
   without-all b h = all-append (all-take b h) (all-drop (suc b) h)
 
-  without-count : (q : A → Bool) (b : ℕ) (d : A) (xs : List A) → b < length xs → count q xs ≡ gate (q (getD xs b d)) 1 + count q (without b xs)
+  pub without-count : (q : A → Bool) (b : ℕ) (d : A) (xs : List A) → b < length xs → count q xs ≡ gate (q (getD xs b d)) 1 + count q (without b xs)
   without-count q b d xs h =
       ap (count q) (split-at xs b d h)
       ∙ omega (

@@ -3,6 +3,7 @@ pub mod Plain
 pub mod Tests
 pub mod Orders
 pub mod Every
+pub mod Filters
 pub mod Counting
 pub mod Positions
 pub mod Sorting

@@ -1,0 +1,3 @@
+-- The laws of a block's words that its builder rests on.
+pub mod Sides
+pub mod Blocks
