@@ -1,0 +1,17 @@
+-- `table::first_far` meets its contract. Assumes nothing.
+use Rattle.paper.specs.Answers.{farOff}
+use Rattle.table.specs.Segments.{first-answer}
+use borrow.Author.Needs.{needs}
+use Rattle.table.proofs.first_far.Statement.{statement}
+use Rattle.table.proofs.first_far.Tie as tie
+
+first-fault-requires : tie.Need-first-fault-requires
+first-fault-requires c κs = search needs
+
+returns : tie.Need-returns
+returns c =
+    let s = c .before in
+    (c .first-fault .ensures, first-answer (s .args .d) (s .args .table .now) 5 farOff (s .args .n) (c .first-fault .result) (s .pre .0) (c .first-fault .ensures))
+
+pub first-far-spec : {M : Type 1} → statement M
+first-far-spec = tie.close (tie.spec first-fault-requires returns)

@@ -1,0 +1,41 @@
+-- What the functions over a table ask of their callers and say to them, beside the words of `paper`.
+use mathlib.Core.Path.{_≡_}
+use mathlib.Core.Bool.{Bool, true, false, not, _||_, cond}
+use Prim.Native.Nat.{ℕ}
+use lib.IntN.{ℤ, pos, _+ℤ_, _*ℤ_}
+use lib.Dec.{eqb, ltb}
+use Rattle.lists.specs.Plain.{any, positions}
+use Rattle.paper.specs.Limits.{strideFits}
+use Rattle.paper.specs.Descriptor.{cellOf, outside}
+use Rattle.paper.specs.Answers.{Answer, answer, badExtent, badCells, farOff, slanted}
+use Rattle.paper.specs.declared.Descriptor.{Descriptor}
+use Rattle.paper.specs.declared.Segment.{Segment}
+
+-- how far from the base coordinate j of position i stands
+abbrev pub offsetOf : Descriptor → ℕ → ℕ → ℤ
+offsetOf d i j = pos i *ℤ d .«segment_stride» +ℤ pos j *ℤ d .«coordinate_stride»
+
+abbrev pub badStride : Descriptor → Bool
+badStride d = not (strideFits (d .«segment_stride»)) || not (strideFits (d .«coordinate_stride»))
+
+-- strides within their limits, and a base that is a cell of the table
+pub record Based (len : ℤ) (d : Descriptor) : Type 0 where
+  pub strides : badStride d ≡ false
+  pub base : outside len (d .base) ≡ false
+
+-- position i has a cell outside the table
+abbrev pub rowOutside : ℤ → Descriptor → ℕ → Bool
+rowOutside len d i = any (λ j. outside len (cellOf d i j)) (positions 4)
+
+-- a table of len cells that refusals 3 and 4 pass
+pub record Held (len : ℤ) (d : Descriptor) : Type 0 where
+  pub extent : badExtent (d .extent) .given ≡ false
+  pub cells : badCells len d .given ≡ false
+
+-- what answer 5 is given for in a segment, and what answer 6
+abbrev pub fault : ℕ → Segment → Bool
+fault number s = cond (eqb number 5) (farOff s) (slanted s)
+
+-- an answer that is given where r is below n, for position r
+abbrev pub foundAt : ℕ → ℕ → ℕ → Answer
+foundAt number n r = cond (ltb r n) (record { number = number; given = true; count = 0; position = r }) (answer number false)
