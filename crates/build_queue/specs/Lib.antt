@@ -1,4 +1,5 @@
 -- The laws of a queue's words that its builder rests on.
 pub mod Taking
 pub mod Queues
+pub mod Best
 pub mod Runs
