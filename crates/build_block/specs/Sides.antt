@@ -14,25 +14,13 @@ use Rattle.lists.specs.Plain.{within, count, filter, by, sort}
 use Rattle.lists.specs.Tests.{gate, gate-one, is-true, both, fail-left, yes-not}
 use Rattle.lists.specs.Orders.{Order, Linear, upTo, ltZ-not, ltZ-up, ltZ-linear, ℤ-order, le-self, ltb-linear, by-linear, by-key}
 use Rattle.lists.specs.Every.{All, all-map, Sorted, sorted-map}
+use Rattle.lists.specs.Maps.{map-at, map-sorted}
 use Rattle.lists.specs.Filters.{filter-append, filter-all, filter-none, filter-same}
 use Rattle.lists.specs.Counting.{count-cons, count-map, filter-length}
 use Rattle.lists.specs.Sorting.{InOrder, sort-count, sort-length, sort-sorted, unique}
 use Rattle.build_queue.specs.Taking.{without, without-count}
 use Rattle.paper.specs.declared.Segment.{Segment}
 use Rattle.paper.specs.Words.{Axis, nearOf, farOf, stays, lefts, rights}
-
-at-map : {A B : Type 0} (f : A → B) (l : List A) (i : ℕ) (d : A) → getD (map f l) i (f d) ≡ f (getD l i d)
-at-map f [] i d = refl
-at-map f (x ∷ l) zero d = refl
-at-map f (x ∷ l) (suc i) d = at-map f l i d
-
-sorted-keys : {A B : Type 0} {R : B → B → Type 0} (f : A → B) {l : List A} → Sorted (λ x y. R (f x) (f y)) l → Sorted R (map f l)
-sorted-keys f Sorted.none = Sorted.none
-sorted-keys {R = R} f (Sorted.next {x = x} h s) = Sorted.next (go h) (sorted-keys f s)
-  where
-    go : {m : List _} → All (λ y. R (f x) (f y)) m → All (R (f x)) (map f m)
-    go All.none = All.none
-    go (All.also p k) = All.also p (go k)
 
 module _ (rs : List Segment) (axis : Axis) where
   -- no record's far end is before its near end
@@ -59,7 +47,7 @@ module _ (rs : List Segment) (axis : Axis) where
 
   near-keys : {ps : List ℕ} → Sorted Nearer ps → InOrder ltZ (map (nearOf rs axis) ps)
   near-keys s =
-      sorted-keys {R = λ a b. T (upTo ltZ a b)} (nearOf rs axis) (sorted-map (λ x y k. up-of (nearOf rs axis x) (nearOf rs axis y) k) s)
+      map-sorted (nearOf rs axis) {R = λ a b. T (upTo ltZ a b)} (sorted-map (λ x y k. up-of (nearOf rs axis x) (nearOf rs axis y) k) s)
 
   pub sort-near : (ps : List ℕ) → Sorted Nearer (sort byNear ps)
   sort-near ps = sorted-map (λ x y k. by-key (nearOf rs axis) ltb x y k) (sort-sorted byNear (near-linear .order) ps)
@@ -71,9 +59,9 @@ module _ (rs : List Segment) (axis : Axis) where
       unique ltZ ltZ-linear (near-keys s) (near-keys (sort-near ps))
       (λ q.
       count-map (nearOf rs axis) q ps ∙ sym (count-map (nearOf rs axis) q (sort byNear ps) ∙ sort-count byNear (λ p. q (nearOf rs axis p)) ps)) in
-      sym (at-map (nearOf rs axis) ps (length ps / 2) 0)
+      sym (map-at (nearOf rs axis) ps (length ps / 2) 0)
       ∙ ap (λ l. getD l (length ps / 2) (nearOf rs axis 0)) same
-      ∙ at-map (nearOf rs axis) (sort byNear ps) (length ps / 2) 0
+      ∙ map-at (nearOf rs axis) (sort byNear ps) (length ps / 2) 0
 
   module _ (tidy : Tidy) (centre : ℤ) where
     one : (a b : Bool) → (T (not a) → T (not b) → ⊥) → gate (a && b) 1 + gate (not b) 1 + gate (not a) 1 ≡ 1

@@ -88,18 +88,18 @@ module _ (rs : List Segment) (axis : Axis) (end : End) where
         record {
           some = omega arith;
           within = omega arith;
-          least = one-more ps i x more (all-map (λ p k. taken-linear rs axis end .order .trans x y p u k) (seen .least)) (le-self up (taken-linear rs axis end .order) x)
+          least = one-more ps i x more (all-map (λ p k. taken-linear rs axis end .order .trans x y p u k) (seen .least)) (le-self up (taken-linear rs axis end .order) x);
         }
 
     pub seen-kept : InOrder (lower rs axis) ps → ahead end (keyAt rs axis end (getD ps i 0)) (keyAt rs axis end (getD ps b 0)) ≡ false → Seen ps b (i + 1)
     seen-kept stands h = record {
       some = omega (arith, seen .some);
       within = omega arith;
-      least = one-more ps i (getD ps b 0) more (seen .least) (later (getD ps b 0) (getD ps i 0) h (sorted-at 0 b i stands (seen .some) more))
+      least = one-more ps i (getD ps b 0) more (seen .least) (later (getD ps b 0) (getD ps i 0) h (sorted-at 0 b i stands (seen .some) more));
     }
 
   pub seen-all : (ps : List ℕ) (b i : ℕ) → Seen ps b i → length ps ≤ i → Best ps b
   seen-all ps b i seen h = record {
     inside = omega (arith, seen .some, seen .within);
-    least = subst (All (λ p. T (up (getD ps b 0) p))) (take-all i ps h) (seen .least)
+    least = subst (All (λ p. T (up (getD ps b 0) p))) (take-all i ps h) (seen .least);
   }

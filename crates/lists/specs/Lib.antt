@@ -4,6 +4,7 @@ pub mod Tests
 pub mod Orders
 pub mod Every
 pub mod Filters
+pub mod Maps
 pub mod Counting
 pub mod Positions
 pub mod Sorting
