@@ -13,6 +13,14 @@ use Rattle.lists.specs.Tests.{gate, gate-le, gate-none, gate-zero, gate-
 use Rattle.lists.specs.Every.{All, all-map, Sorted, Distinct}
 
 module _ {A : Type 0} where
+  pub count-nil : (q : A → Bool) → count q [] ≡ 0
+  unfolding count
+  count-nil q = refl
+
+  pub count-one : (q : A → Bool) (x : A) → count q (x ∷ []) ≡ gate (q x) 1
+  unfolding count
+  count-one q x = omega arith
+
   pub count-cons : (q : A → Bool) (x : A) (l : List A) → count q (x ∷ l) ≡ gate (q x) 1 + count q l
   unfolding count
   count-cons q x l = refl
