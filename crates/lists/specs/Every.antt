@@ -74,6 +74,12 @@ module _ {A : Type 0} where
       go true e k = All.also {x = x} (rw e tt, p) k
       go false e k = k
 
+  pub filter-holds : (t : A → Bool) (l : List A) → All (λ x. T (t x)) (filter t l)
+  filter-holds t l = all-map (λ x h. h .0) (all-filter t (all-any {P = λ x. Unit {0}} (λ x. tt) l))
+
+  pub filter-keeps : {P : A → Type 0} (t : A → Bool) {l : List A} → All P l → All P (filter t l)
+  filter-keeps t h = all-map (λ x k. k .1) (all-filter t h)
+
   pub sorted-filter : {R : A → A → Type 0} (t : A → Bool) {l : List A} → Sorted R l → Sorted R (filter t l)
   unfolding filter
   sorted-filter t Sorted.none = Sorted.none

@@ -1,3 +1,4 @@
 pub mod Places
 pub mod Events
 pub mod Queue
+pub mod Block
