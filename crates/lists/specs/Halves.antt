@@ -7,6 +7,7 @@ use mathlib.Core.Bool.{Bool, not}
 use Prim.Native.Nat.{ℕ, zero, suc, _+_, _-_, _*_, _/_, _≤_, _<_}
 use native.Mathlib.Omega.{arith}
 use lib.ListN.{length, take, drop, getD, length-take, length-drop, take-append-drop}
+use lib.Seq.{take-all}
 use lib.Dec.{T}
 use Rattle.lists.specs.Plain.{half, firstHalf, secondHalf, last, count}
 use Rattle.lists.specs.Tests.{yes-not}
@@ -66,6 +67,13 @@ module _ {A K : Type 0} (le : K → K → Bool) (o : Order le) (key : A → K) w
   place (suc j) d e Sorted.none = absurd (omega arith)
   place (suc j) d e (Sorted.next {x = x} {l = l} h s) =
       let ih = place j d (omega arith) s in (All.also (all-getD j d (omega arith) h) (ih .0), ih .1)
+
+  -- the first key is no greater than any, the last no smaller
+  pub first-least : {l : List A} (d : A) → 1 ≤ length l → ByKey l → All (λ x. T (le (key (getD l 0 d)) (key x))) l
+  first-least d h s = place 0 d (omega arith) s .1
+
+  pub last-greatest : {l : List A} (d : A) → 1 ≤ length l → ByKey l → All (λ x. T (le (key x) (key (getD l (length l - 1) d)))) l
+  last-greatest {l} d h s = rw (take-all (suc (length l - 1)) l (omega arith)) at (place (length l - 1) d (omega arith) s .0)
 
   pub place-below : {l : List A} (j : ℕ) (d : A) → j < length l → ByKey l → count (λ x. not (le (key (getD l j d)) (key x))) l ≤ j
   place-below {l} j d e s =
