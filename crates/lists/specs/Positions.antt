@@ -6,8 +6,7 @@ use mathlib.Core.List.{List, [], _∷_, _++_, map, append-assoc, append-nil, map
 use mathlib.Core.Bool.{Bool, true, false, not}
 use Prim.Native.Nat.{ℕ, zero, suc, _+_, _*_, _≤_, _<_}
 use native.Mathlib.Omega.{arith}
-use lib.ListN.{length, getD, length-append, List·getD-append}
-use lib.Seq.{getD-at}
+use lib.ListN.{length, length-append}
 use lib.Dec.{T, T-not, eqb, eqb→eq, eqb-refl, ltb, ltb→lt, nltb→le}
 use Rattle.lists.specs.Plain.{positions, joined, count}
 use Rattle.lists.specs.Tests.{gate}
@@ -25,18 +24,6 @@ pub positions-below : (n m : ℕ) → m ≤ n → All (λ p. p < n) (positions m
 unfolding positions
 positions-below n zero h = All.none
 positions-below n (suc m) h = all-append (positions-below n m (omega arith)) (All.also {x = m} (omega arith) All.none)
-
--- place j holds j
-pub positions-at : (n j d : ℕ) → j < n → getD (positions n) j d ≡ j
-unfolding positions
-positions-at zero j d h = absurd (omega arith)
-positions-at (suc n) j d h = go (ltb j n) (ltb→lt j n) (nltb→le j n) (λ u. positions-at n j d u)
-  where
-    go : (b : Bool) → (T b → j < n) → (T (not b) → n ≤ j) → (j < n → getD (positions n) j d ≡ j) → getD (positions n ++ (n ∷ [])) j d ≡ j
-    go true f g k = List·getD-append (positions n) (n ∷ []) d j (omega (arith, f tt, positions-length n)) ∙ k (f tt)
-    go false f g k =
-        let e : n ≡ j = omega (arith, g tt) in
-        subst (λ (k : ℕ). getD (positions n ++ (n ∷ [])) k d ≡ k) e (getD-at (positions n) n [] d n (positions-length n))
 
 below-suc : (p n : ℕ) → gate (ltb p n) 1 + gate (eqb p n) 1 ≡ gate (ltb p (suc n)) 1
 below-suc p n =

@@ -6,11 +6,12 @@ use mathlib.Core.Bool.{Bool, true, false, not}
 use Prim.Native.Nat.{ℕ, zero, suc, _+_, _*_, _≤_, _<_}
 use native.Mathlib.Nat.{add-zero}
 use native.Mathlib.Omega.{arith}
-use lib.ListN.{length, drop, getD, length-map, List·getD-map}
+use lib.ListN.{length, drop, getD, length-map}
 use lib.IntN.{ℤ, pos}
 use lib.Dec.{T, ltb, ltb→lt, nltb→le}
 use Rattle.lists.specs.Plain.{positions, joined}
-use Rattle.lists.specs.Positions.{positions-length, positions-at, numbered-suc, numbered-length}
+use Rattle.lists.specs.Positions.{positions-length, numbered-suc, numbered-length}
+use Rattle.lists.specs.Choosing.{at-map}
 
 abbrev pub At : List ℤ → ℕ → List ℤ → Type 0
 At ws i [] = Unit {0}
@@ -75,5 +76,5 @@ module _ (ws : List ℤ) where
   -- of numbers that are given by their places, number j
   pub at-number : (f : ℕ → ℕ) (m i j : ℕ) → j < m → At ws i (asWords (map f (positions m))) → getD ws (i + j) (pos 0) ≡ pos (f j)
   at-number f m i j h a =
-      at-get i (map f (positions m)) j (f 0) (omega (arith, length-map (positions m) f, positions-length m)) a
-      ∙ ap (λ (k : ℕ). pos k) (List·getD-map f (positions m) j 0 ∙ ap f (positions-at m j 0 h))
+      at-get i (map f (positions m)) j 0 (omega (arith, length-map (positions m) f, positions-length m)) a
+      ∙ ap (λ (k : ℕ). pos k) (at-map f 0 m j h)
