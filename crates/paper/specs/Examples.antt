@@ -1,7 +1,10 @@
--- Document 01: W, and refusals of each number in their orders, for C hosts too: one table, one statement. Written by tools/examples.py.
--- The starred examples need the law that the corner test decides Meeting, and stand above this crate.
-use mathlib.Core.List.{List, [], _∷_}
-use lib.ListN.{replicate}
+-- Document 01: computed examples over its definitions, one table, one statement (`examples`). A row that does not hold makes this crate fail.
+-- `starred` are the starred examples that are calls; crate `examples` joins them with the starred rows about Meeting, whose decision has to be proved first.
+-- Rows: a text stands for the numbers in it, or for its bytes. Refusals stand in the rows of their order with all later faults present too, so that each row
+-- is also the pair of its number with the next.
+use mathlib.Core.List.{List, [], _∷_, _++_}
+use lib.IntN.{ℤ, pos, negℤ}
+use lib.ListN.{replicate, set}
 use Rattle.lists.specs.Plain.{digitsTo, positions, filter, count, any, last, joined, insert, sort}
 use Rattle.paper.specs.Descriptor.{addressed, segmentsOf}
 use Rattle.paper.specs.Words.{nodes, levelWords, levelsWords, queueWordsTo, blockWordsTo, indexWords}
@@ -9,107 +12,232 @@ use Rattle.paper.specs.Walk.{searchTo, slotsWalk, nodeAt, nodeWalk, queu
 use Rattle.paper.specs.Results.{built, listing, queried, scanned}
 use Rattle.paper.specs.Hosts.{hostCell, hostWords, hostMeet}
 use Rattle.paper.specs.Lines.{parts, withoutEmptyLast, valueFrom, numbersIn, lineOf, decimalTo, tabbed, read, fromLine, program}
-use Rattle.paper.specs.Rows.{Row, build, query, scan, words, cell, wordsToC, meetToC, prints, All, every, +, -, descriptor, segment, window, reply}
+use Rattle.paper.specs.Rows.{
+  Row,
+  build,
+  query,
+  ask,
+  scan,
+  words,
+  cellToC,
+  wordsToC,
+  meetToC,
+  prints,
+  All,
+  every,
+  bytes,
+  cells,
+  sevens,
+  zeros,
+  descriptor,
+  segment,
+  window,
+  reply,
+}
 
-abbrev table : List Row
-table =
-    -- W(0)
-    words 0 4
-    -- W(1)
-    ∷ words 1 18
-    -- W(2)
-    ∷ words 2 36
-    -- W(3)
-    ∷ words 3 58
-    -- W(4)
-    ∷ words 4 76
-    ∷ cell (+ 12) (+ 8) (+ 3) (- 4) (+ 1) (+ 2) (+ 3) (+ 3)
-    -- a C host on the descriptors of the starred examples
-    ∷ cell (+ 12) (+ 7) (+ 3) (- 4) (+ 1) (+ 0) (+ 0) (- 4)
-    -- n = 4,096 fits (W(n) for a C host), 4,097 gives 3
-    ∷ wordsToC (+ 4096) (+ 155652)
-    ∷ wordsToC (+ 4097) (- 3)
-    -- builder 1, before all others: kind 4, lower bound, n, stride beyond limits
-    ∷ build ((+ 0) ∷ (+ 2) ∷ (+ 6) ∷ (+ 2) ∷ []) (descriptor (+ 4) (+ 0) (+ 1000001) (+ 4097) (+ 1048577) (+ 1)) [] (reply (+ 1) (+ 0) (+ 0) (+ 0), ([]))
-    -- builder 2: kind 3 and lower bound 1
-    ∷ build ((+ 0) ∷ (+ 2) ∷ (+ 6) ∷ (+ 2) ∷ []) (descriptor (+ 3) (+ 0) (+ 1) (+ 4097) (+ 1048577) (+ 1)) [] (reply (+ 2) (+ 0) (+ 0) (+ 0), ([]))
-    -- builder 3
-    ∷ build ((+ 0) ∷ (+ 2) ∷ (+ 6) ∷ (+ 2) ∷ []) (descriptor (+ 3) (+ 0) (+ 0) (+ 4097) (+ 1048577) (+ 1)) [] (reply (+ 3) (+ 0) (+ 0) (+ 0), ([]))
-    -- builder 4, a stride
-    ∷ build ((+ 0) ∷ (+ 2) ∷ (+ 6) ∷ (+ 2) ∷ []) (descriptor (+ 3) (+ 0) (+ 0) (+ 1) (+ 1048577) (+ 1)) [] (reply (+ 4) (+ 0) (+ 0) (+ 0), ([]))
-    -- builder 4, a cell outside
-    ∷ build ((+ 0) ∷ (+ 2) ∷ (+ 6) ∷ (+ 2) ∷ []) (descriptor (+ 3) (+ 1) (+ 0) (+ 1) (+ 4) (+ 1)) ((+ 7) ∷ (+ 7) ∷ (+ 7) ∷ (+ 7) ∷ (+ 7) ∷ (+ 7) ∷ (+ 7) ∷ (+ 7) ∷ (+ 7) ∷ (+ 7) ∷ (+ 7) ∷ (+ 7) ∷ (+ 7) ∷ (+ 7) ∷ (+ 7) ∷ (+ 7) ∷ (+ 7) ∷ []) (reply (+ 4) (+ 0) (+ 0) (+ 0), ((+ 7) ∷ (+ 7) ∷ (+ 7) ∷ (+ 7) ∷ (+ 7) ∷ (+ 7) ∷ (+ 7) ∷ (+ 7) ∷ (+ 7) ∷ (+ 7) ∷ (+ 7) ∷ (+ 7) ∷ (+ 7) ∷ (+ 7) ∷ (+ 7) ∷ (+ 7) ∷ (+ 7) ∷ []))
-    -- builder 7 before 5 and 6
-    ∷ build ((+ 0) ∷ (+ 0) ∷ (+ 1) ∷ (+ 536870913) ∷ []) (descriptor (+ 3) (+ 0) (+ 0) (+ 1) (+ 4) (+ 1)) ((+ 7) ∷ (+ 7) ∷ (+ 7) ∷ (+ 7) ∷ (+ 7) ∷ (+ 7) ∷ (+ 7) ∷ (+ 7) ∷ (+ 7) ∷ (+ 7) ∷ (+ 7) ∷ (+ 7) ∷ (+ 7) ∷ (+ 7) ∷ (+ 7) ∷ (+ 7) ∷ (+ 7) ∷ []) (reply (+ 7) (+ 0) (+ 0) (+ 0), ((+ 7) ∷ (+ 7) ∷ (+ 7) ∷ (+ 7) ∷ (+ 7) ∷ (+ 7) ∷ (+ 7) ∷ (+ 7) ∷ (+ 7) ∷ (+ 7) ∷ (+ 7) ∷ (+ 7) ∷ (+ 7) ∷ (+ 7) ∷ (+ 7) ∷ (+ 7) ∷ (+ 7) ∷ []))
-    -- builder 5 before 6, though 6 has the smaller position
-    ∷ build ((+ 0) ∷ (+ 0) ∷ (+ 1) ∷ (+ 1) ∷ (+ 0) ∷ (+ 0) ∷ (+ 0) ∷ (+ 536870913) ∷ []) (descriptor (+ 3) (+ 0) (+ 0) (+ 2) (+ 4) (+ 1)) ((+ 7) ∷ (+ 7) ∷ (+ 7) ∷ (+ 7) ∷ (+ 7) ∷ (+ 7) ∷ (+ 7) ∷ (+ 7) ∷ (+ 7) ∷ (+ 7) ∷ (+ 7) ∷ (+ 7) ∷ (+ 7) ∷ (+ 7) ∷ (+ 7) ∷ (+ 7) ∷ (+ 7) ∷ (+ 7) ∷ (+ 7) ∷ (+ 7) ∷ (+ 7) ∷ (+ 7) ∷ (+ 7) ∷ (+ 7) ∷ (+ 7) ∷ (+ 7) ∷ (+ 7) ∷ (+ 7) ∷ (+ 7) ∷ (+ 7) ∷ (+ 7) ∷ (+ 7) ∷ (+ 7) ∷ (+ 7) ∷ (+ 7) ∷ (+ 7) ∷ []) (reply (+ 5) (+ 0) (+ 0) (+ 1), ((+ 7) ∷ (+ 7) ∷ (+ 7) ∷ (+ 7) ∷ (+ 7) ∷ (+ 7) ∷ (+ 7) ∷ (+ 7) ∷ (+ 7) ∷ (+ 7) ∷ (+ 7) ∷ (+ 7) ∷ (+ 7) ∷ (+ 7) ∷ (+ 7) ∷ (+ 7) ∷ (+ 7) ∷ (+ 7) ∷ (+ 7) ∷ (+ 7) ∷ (+ 7) ∷ (+ 7) ∷ (+ 7) ∷ (+ 7) ∷ (+ 7) ∷ (+ 7) ∷ (+ 7) ∷ (+ 7) ∷ (+ 7) ∷ (+ 7) ∷ (+ 7) ∷ (+ 7) ∷ (+ 7) ∷ (+ 7) ∷ (+ 7) ∷ (+ 7) ∷ []))
-    -- builder 6, the first such position
-    ∷ build ((+ 0) ∷ (+ 0) ∷ (+ 1) ∷ (+ 0) ∷ (+ 0) ∷ (+ 0) ∷ (+ 1) ∷ (+ 1) ∷ (+ 0) ∷ (+ 0) ∷ (+ 2) ∷ (+ 2) ∷ []) (descriptor (+ 3) (+ 0) (+ 0) (+ 3) (+ 4) (+ 1)) ((+ 7) ∷ (+ 7) ∷ (+ 7) ∷ (+ 7) ∷ (+ 7) ∷ (+ 7) ∷ (+ 7) ∷ (+ 7) ∷ (+ 7) ∷ (+ 7) ∷ (+ 7) ∷ (+ 7) ∷ (+ 7) ∷ (+ 7) ∷ (+ 7) ∷ (+ 7) ∷ (+ 7) ∷ (+ 7) ∷ (+ 7) ∷ (+ 7) ∷ (+ 7) ∷ (+ 7) ∷ (+ 7) ∷ (+ 7) ∷ (+ 7) ∷ (+ 7) ∷ (+ 7) ∷ (+ 7) ∷ (+ 7) ∷ (+ 7) ∷ (+ 7) ∷ (+ 7) ∷ (+ 7) ∷ (+ 7) ∷ (+ 7) ∷ (+ 7) ∷ (+ 7) ∷ (+ 7) ∷ (+ 7) ∷ (+ 7) ∷ (+ 7) ∷ (+ 7) ∷ (+ 7) ∷ (+ 7) ∷ (+ 7) ∷ (+ 7) ∷ (+ 7) ∷ (+ 7) ∷ (+ 7) ∷ (+ 7) ∷ (+ 7) ∷ (+ 7) ∷ (+ 7) ∷ (+ 7) ∷ (+ 7) ∷ (+ 7) ∷ (+ 7) ∷ (+ 7) ∷ []) (reply (+ 6) (+ 0) (+ 0) (+ 1), ((+ 7) ∷ (+ 7) ∷ (+ 7) ∷ (+ 7) ∷ (+ 7) ∷ (+ 7) ∷ (+ 7) ∷ (+ 7) ∷ (+ 7) ∷ (+ 7) ∷ (+ 7) ∷ (+ 7) ∷ (+ 7) ∷ (+ 7) ∷ (+ 7) ∷ (+ 7) ∷ (+ 7) ∷ (+ 7) ∷ (+ 7) ∷ (+ 7) ∷ (+ 7) ∷ (+ 7) ∷ (+ 7) ∷ (+ 7) ∷ (+ 7) ∷ (+ 7) ∷ (+ 7) ∷ (+ 7) ∷ (+ 7) ∷ (+ 7) ∷ (+ 7) ∷ (+ 7) ∷ (+ 7) ∷ (+ 7) ∷ (+ 7) ∷ (+ 7) ∷ (+ 7) ∷ (+ 7) ∷ (+ 7) ∷ (+ 7) ∷ (+ 7) ∷ (+ 7) ∷ (+ 7) ∷ (+ 7) ∷ (+ 7) ∷ (+ 7) ∷ (+ 7) ∷ (+ 7) ∷ (+ 7) ∷ (+ 7) ∷ (+ 7) ∷ (+ 7) ∷ (+ 7) ∷ (+ 7) ∷ (+ 7) ∷ (+ 7) ∷ (+ 7) ∷ (+ 7) ∷ []))
-    -- with n = 0 base may be anything
-    ∷ build [] (descriptor (+ 1) (- 9223372036854775808) (+ 5) (+ 0) (+ 0) (+ 0)) ((+ 7) ∷ (+ 7) ∷ (+ 7) ∷ (+ 7) ∷ (+ 7) ∷ []) (reply (+ 0) (+ 4) (+ 0) (+ 0), ((+ 0) ∷ (+ 5) ∷ (+ 0) ∷ (+ 0) ∷ (+ 7) ∷ []))
-    -- scan 1, 2, 3, 4, 8, 7, 5
-    ∷ scan ((+ 0) ∷ (+ 2) ∷ (+ 6) ∷ (+ 2) ∷ []) (descriptor (+ 0) (+ 0) (+ 1000001) (- 1) (+ 0) (+ 1048577)) (window (+ 1) (+ 0) (+ 0) (+ 0)) [] (reply (+ 1) (+ 0) (+ 0) (+ 0), ([]))
-    ∷ scan ((+ 0) ∷ (+ 2) ∷ (+ 6) ∷ (+ 2) ∷ []) (descriptor (+ 1) (+ 0) (+ 1000001) (- 1) (+ 0) (+ 1048577)) (window (+ 1) (+ 0) (+ 0) (+ 0)) [] (reply (+ 2) (+ 0) (+ 0) (+ 0), ([]))
-    ∷ scan ((+ 0) ∷ (+ 2) ∷ (+ 6) ∷ (+ 2) ∷ []) (descriptor (+ 1) (+ 0) (+ 0) (- 1) (+ 0) (+ 1048577)) (window (+ 1) (+ 0) (+ 0) (+ 0)) [] (reply (+ 3) (+ 0) (+ 0) (+ 0), ([]))
-    ∷ scan ((+ 0) ∷ (+ 2) ∷ (+ 6) ∷ (+ 2) ∷ []) (descriptor (+ 1) (+ 0) (+ 0) (+ 1) (+ 0) (+ 1048577)) (window (+ 1) (+ 0) (+ 0) (+ 0)) [] (reply (+ 4) (+ 0) (+ 0) (+ 0), ([]))
-    ∷ scan ((+ 0) ∷ (+ 0) ∷ (+ 0) ∷ (+ 536870913) ∷ []) (descriptor (+ 1) (+ 0) (+ 0) (+ 1) (+ 0) (+ 1)) (window (+ 1) (+ 0) (+ 0) (+ 0)) [] (reply (+ 8) (+ 0) (+ 0) (+ 0), ([]))
-    ∷ scan ((+ 0) ∷ (+ 0) ∷ (+ 0) ∷ (+ 536870913) ∷ []) (descriptor (+ 1) (+ 0) (+ 0) (+ 1) (+ 0) (+ 1)) (window (+ 0) (+ 0) (+ 0) (+ 0)) [] (reply (+ 7) (+ 0) (+ 0) (+ 0), ([]))
-    ∷ scan ((+ 0) ∷ (+ 0) ∷ (+ 0) ∷ (+ 536870913) ∷ []) (descriptor (+ 1) (+ 0) (+ 0) (+ 1) (+ 0) (+ 1)) (window (+ 0) (+ 0) (+ 0) (+ 0)) ((+ 7) ∷ []) (reply (+ 5) (+ 0) (+ 0) (+ 0), ((+ 7) ∷ []))
-    -- scan of slanted segments, ascending; the cell after keeps its value
-    ∷ scan ((- 2) ∷ (+ 2) ∷ (+ 2) ∷ (+ 6) ∷ (- 2) ∷ (+ 3) ∷ (+ 2) ∷ (+ 7) ∷ (+ 4) ∷ (+ 4) ∷ (+ 9) ∷ (+ 9) ∷ []) (descriptor (+ 1) (+ 0) (- 1) (+ 3) (+ 4) (+ 1)) (window (+ 0) (+ 4) (+ 0) (+ 4)) ((+ 7) ∷ (+ 7) ∷ (+ 7) ∷ []) (reply (+ 0) (+ 2) (+ 0) (+ 0), ((- 1) ∷ (+ 1) ∷ (+ 7) ∷ []))
-    -- query 9 before 8 and 7: three words; n beyond its limits; a lower bound; a negative count; counts not adding to n; fewer than W(n)
-    ∷ query ((+ 1) ∷ (+ 1) ∷ (+ 1) ∷ []) (window (+ 1) (+ 0) (+ 0) (+ 0)) [] (reply (+ 9) (+ 0) (+ 0) (+ 0), ([]))
-    ∷ query ((+ 4097) ∷ (+ 1) ∷ (+ 1) ∷ (+ 0) ∷ (+ 0) ∷ (+ 2) ∷ (+ 6) ∷ (+ 2) ∷ (+ 0) ∷ (+ 0) ∷ (+ 0) ∷ (+ 1) ∷ (+ 0) ∷ (+ 0) ∷ (+ 0) ∷ (+ 0) ∷ (+ 0) ∷ (+ 0) ∷ []) (window (+ 1) (+ 0) (+ 0) (+ 0)) [] (reply (+ 9) (+ 0) (+ 0) (+ 0), ([]))
-    ∷ query ((+ 1) ∷ (+ 1000001) ∷ (+ 1) ∷ (+ 0) ∷ (+ 0) ∷ (+ 2) ∷ (+ 6) ∷ (+ 2) ∷ (+ 0) ∷ (+ 0) ∷ (+ 0) ∷ (+ 1) ∷ (+ 0) ∷ (+ 0) ∷ (+ 0) ∷ (+ 0) ∷ (+ 0) ∷ (+ 0) ∷ []) (window (+ 1) (+ 0) (+ 0) (+ 0)) [] (reply (+ 9) (+ 0) (+ 0) (+ 0), ([]))
-    ∷ query ((+ 1) ∷ (+ 1) ∷ (- 1) ∷ (+ 2) ∷ (+ 0) ∷ (+ 2) ∷ (+ 6) ∷ (+ 2) ∷ (+ 0) ∷ (+ 0) ∷ (+ 0) ∷ (+ 1) ∷ (+ 0) ∷ (+ 0) ∷ (+ 0) ∷ (+ 0) ∷ (+ 0) ∷ (+ 0) ∷ []) (window (+ 1) (+ 0) (+ 0) (+ 0)) [] (reply (+ 9) (+ 0) (+ 0) (+ 0), ([]))
-    ∷ query ((+ 1) ∷ (+ 1) ∷ (+ 2) ∷ (- 1) ∷ (+ 0) ∷ (+ 2) ∷ (+ 6) ∷ (+ 2) ∷ (+ 0) ∷ (+ 0) ∷ (+ 0) ∷ (+ 1) ∷ (+ 0) ∷ (+ 0) ∷ (+ 0) ∷ (+ 0) ∷ (+ 0) ∷ (+ 0) ∷ []) (window (+ 1) (+ 0) (+ 0) (+ 0)) [] (reply (+ 9) (+ 0) (+ 0) (+ 0), ([]))
-    ∷ query ((+ 1) ∷ (+ 1) ∷ (+ 1) ∷ (+ 1) ∷ (+ 0) ∷ (+ 2) ∷ (+ 6) ∷ (+ 2) ∷ (+ 0) ∷ (+ 0) ∷ (+ 0) ∷ (+ 1) ∷ (+ 0) ∷ (+ 0) ∷ (+ 0) ∷ (+ 0) ∷ (+ 0) ∷ (+ 0) ∷ []) (window (+ 1) (+ 0) (+ 0) (+ 0)) [] (reply (+ 9) (+ 0) (+ 0) (+ 0), ([]))
-    ∷ query ((+ 1) ∷ (+ 1) ∷ (+ 1) ∷ (+ 0) ∷ (+ 0) ∷ (+ 2) ∷ (+ 6) ∷ (+ 2) ∷ (+ 0) ∷ (+ 0) ∷ (+ 0) ∷ (+ 1) ∷ (+ 0) ∷ (+ 0) ∷ (+ 0) ∷ (+ 0) ∷ (+ 0) ∷ []) (window (+ 1) (+ 0) (+ 0) (+ 0)) [] (reply (+ 9) (+ 0) (+ 0) (+ 0), ([]))
-    -- query 8 before 7
-    ∷ query ((+ 1) ∷ (+ 1) ∷ (+ 1) ∷ (+ 0) ∷ (+ 0) ∷ (+ 2) ∷ (+ 6) ∷ (+ 2) ∷ (+ 0) ∷ (+ 0) ∷ (+ 0) ∷ (+ 1) ∷ (+ 0) ∷ (+ 0) ∷ (+ 0) ∷ (+ 0) ∷ (+ 0) ∷ (+ 0) ∷ []) (window (+ 1) (+ 0) (+ 0) (+ 0)) [] (reply (+ 8) (+ 0) (+ 0) (+ 0), ([]))
-    -- query 7 before 10
-    ∷ query ((+ 1) ∷ (+ 1) ∷ (+ 1) ∷ (+ 0) ∷ (+ 0) ∷ (+ 2) ∷ (+ 6) ∷ (+ 2) ∷ (+ 1) ∷ (+ 0) ∷ (+ 0) ∷ (+ 1) ∷ (+ 0) ∷ (+ 0) ∷ (+ 0) ∷ (+ 0) ∷ (+ 0) ∷ (+ 0) ∷ []) (window (+ 3) (+ 5) (+ 1) (+ 3)) [] (reply (+ 7) (+ 0) (+ 0) (+ 0), ([]))
-    -- query 10: a spoiled position word; the first n cells are 0, the cell after keeps its value
-    ∷ query ((+ 1) ∷ (+ 1) ∷ (+ 1) ∷ (+ 0) ∷ (+ 0) ∷ (+ 2) ∷ (+ 6) ∷ (+ 2) ∷ (+ 1) ∷ (+ 0) ∷ (+ 0) ∷ (+ 1) ∷ (+ 0) ∷ (+ 0) ∷ (+ 0) ∷ (+ 0) ∷ (+ 0) ∷ (+ 0) ∷ []) (window (+ 3) (+ 5) (+ 1) (+ 3)) ((+ 7) ∷ (+ 7) ∷ []) (reply (+ 10) (+ 0) (+ 0) (+ 0), ((+ 0) ∷ (+ 7) ∷ []))
-    -- query 10: s + ml + mr ≠ m
-    ∷ query ((+ 1) ∷ (+ 1) ∷ (+ 1) ∷ (+ 0) ∷ (+ 0) ∷ (+ 2) ∷ (+ 6) ∷ (+ 2) ∷ (+ 0) ∷ (+ 0) ∷ (+ 0) ∷ (+ 2) ∷ (+ 0) ∷ (+ 0) ∷ (+ 0) ∷ (+ 0) ∷ (+ 0) ∷ (+ 0) ∷ []) (window (+ 3) (+ 5) (+ 1) (+ 3)) ((+ 7) ∷ (+ 7) ∷ []) (reply (+ 10) (+ 0) (+ 0) (+ 0), ((+ 0) ∷ (+ 7) ∷ []))
-    -- query 10: a number is due and n are listed (the centre is changed, so the segment comes twice)
-    ∷ query ((+ 1) ∷ (+ 1) ∷ (+ 1) ∷ (+ 0) ∷ (+ 0) ∷ (+ 2) ∷ (+ 6) ∷ (+ 2) ∷ (+ 0) ∷ (+ 0) ∷ (- 5) ∷ (+ 1) ∷ (+ 0) ∷ (+ 0) ∷ (+ 0) ∷ (+ 0) ∷ (+ 0) ∷ (+ 0) ∷ []) (window (+ 0) (+ 5) (+ 1) (+ 3)) ((+ 7) ∷ (+ 7) ∷ []) (reply (+ 10) (+ 0) (+ 0) (+ 0), ((+ 0) ∷ (+ 7) ∷ []))
-    -- a record's level is taken from its low end: a vertical and a horizontal whose other word is changed
-    ∷ query ((+ 1) ∷ (+ 1) ∷ (+ 0) ∷ (+ 1) ∷ (+ 4) ∷ (+ 0) ∷ (+ 9) ∷ (+ 5) ∷ (+ 0) ∷ (+ 0) ∷ (+ 0) ∷ (+ 1) ∷ (+ 0) ∷ (+ 0) ∷ (+ 0) ∷ (+ 0) ∷ (+ 0) ∷ (+ 0) ∷ []) (window (+ 3) (+ 5) (+ 1) (+ 3)) ((+ 7) ∷ []) (reply (+ 0) (+ 1) (+ 4) (+ 0), ((+ 1) ∷ []))
-    ∷ query ((+ 1) ∷ (+ 1) ∷ (+ 1) ∷ (+ 0) ∷ (+ 0) ∷ (+ 2) ∷ (+ 6) ∷ (+ 9) ∷ (+ 0) ∷ (+ 0) ∷ (+ 0) ∷ (+ 1) ∷ (+ 0) ∷ (+ 0) ∷ (+ 0) ∷ (+ 0) ∷ (+ 0) ∷ (+ 0) ∷ []) (window (+ 3) (+ 5) (+ 1) (+ 3)) ((+ 7) ∷ []) (reply (+ 0) (+ 1) (+ 4) (+ 0), ((+ 1) ∷ []))
-    -- query 10: a count that leaves more than the right size (slot 2 of three, 0 to the left, so 2 to a right side of one)
-    ∷ query ((+ 3) ∷ (+ 1) ∷ (+ 2) ∷ (+ 1) ∷ (+ 0) ∷ (+ 2) ∷ (+ 6) ∷ (+ 2) ∷ (+ 4) ∷ (+ 0) ∷ (+ 4) ∷ (+ 5) ∷ (+ 9) ∷ (+ 9) ∷ (+ 9) ∷ (+ 9) ∷ (+ 1) ∷ (+ 0) ∷ (+ 2) ∷ (+ 0) ∷ (+ 1) ∷ (+ 0) ∷ (+ 1) ∷ (+ 0) ∷ (+ 2) ∷ (+ 0) ∷ (+ 0) ∷ (+ 0) ∷ (+ 0) ∷ (+ 1) ∷ (+ 2) ∷ (+ 0) ∷ (+ 0) ∷ (+ 0) ∷ (+ 9) ∷ (+ 1) ∷ (+ 1) ∷ (+ 0) ∷ (+ 2) ∷ (+ 0) ∷ (+ 2) ∷ (+ 0) ∷ (+ 0) ∷ (+ 1) ∷ (+ 0) ∷ (+ 0) ∷ (+ 0) ∷ (+ 0) ∷ (+ 0) ∷ (+ 0) ∷ (+ 0) ∷ (+ 1) ∷ (+ 0) ∷ (+ 0) ∷ (+ 1) ∷ (+ 0) ∷ (+ 1) ∷ (+ 0) ∷ []) (window (+ 3) (+ 5) (+ 3) (+ 9)) ((+ 7) ∷ (+ 7) ∷ (+ 7) ∷ []) (reply (+ 10) (+ 0) (+ 0) (+ 0), ((+ 0) ∷ (+ 0) ∷ (+ 0) ∷ []))
-    -- a sound index
-    ∷ query ((+ 1) ∷ (+ 1) ∷ (+ 1) ∷ (+ 0) ∷ (+ 0) ∷ (+ 2) ∷ (+ 6) ∷ (+ 2) ∷ (+ 0) ∷ (+ 0) ∷ (+ 0) ∷ (+ 1) ∷ (+ 0) ∷ (+ 0) ∷ (+ 0) ∷ (+ 0) ∷ (+ 0) ∷ (+ 0) ∷ []) (window (+ 3) (+ 5) (+ 1) (+ 3)) ((+ 7) ∷ (+ 7) ∷ []) (reply (+ 0) (+ 1) (+ 4) (+ 0), ((+ 1) ∷ (+ 7) ∷ []))
-    -- C hosts: 3, 4, 11 in this order; a length below 0 holds no cell
-    ∷ cell (+ 12) (+ 8) (- 1) (+ 1048577) (+ 1) (+ 3) (+ 0) (- 3)
-    ∷ cell (+ 12) (+ 8) (+ 3) (+ 1048577) (+ 1) (+ 3) (+ 0) (- 4)
-    ∷ cell (+ 12) (+ 8) (+ 3) (- 4) (+ 1) (+ 3) (+ 0) (- 11)
-    ∷ cell (+ 12) (+ 8) (+ 3) (- 4) (+ 1) (+ 0) (+ 4) (- 11)
-    ∷ cell (- 1) (+ 0) (+ 1) (+ 0) (+ 0) (+ 0) (+ 0) (- 4)
-    ∷ meetToC (segment (+ 0) (+ 0) (+ 0) (+ 536870913)) (window (+ 1) (+ 0) (+ 0) (+ 0)) (- 8)
-    ∷ meetToC (segment (+ 0) (+ 0) (+ 0) (+ 536870913)) (window (+ 0) (+ 1) (+ 0) (+ 0)) (- 5)
-    ∷ meetToC (segment (+ 0) (+ 0) (+ 6) (+ 6)) (window (+ 3) (+ 3) (+ 3) (+ 3)) (+ 1)
-    ∷ meetToC (segment (+ 0) (+ 0) (+ 6) (+ 5)) (window (+ 3) (+ 3) (+ 3) (+ 3)) (+ 0)
-    -- the program: empty input prints nothing
-    ∷ prints ([]) ([])
-    -- an empty line, -0, a leading zero, 11 digits, a line in another place: 0
-    ∷ prints (10 ∷ []) (82 ∷ 9 ∷ 48 ∷ 9 ∷ 49 ∷ 10 ∷ [])
-    ∷ prints (84 ∷ 9 ∷ 45 ∷ 48 ∷ 9 ∷ 48 ∷ []) (82 ∷ 9 ∷ 48 ∷ 9 ∷ 49 ∷ 10 ∷ [])
-    ∷ prints (84 ∷ 9 ∷ 49 ∷ 9 ∷ 48 ∷ 48 ∷ []) (82 ∷ 9 ∷ 48 ∷ 9 ∷ 49 ∷ 10 ∷ [])
-    ∷ prints (84 ∷ 9 ∷ 49 ∷ 9 ∷ 49 ∷ 50 ∷ 51 ∷ 52 ∷ 53 ∷ 54 ∷ 55 ∷ 56 ∷ 57 ∷ 48 ∷ 49 ∷ []) (82 ∷ 9 ∷ 48 ∷ 9 ∷ 49 ∷ 10 ∷ [])
-    ∷ prints (84 ∷ 9 ∷ 49 ∷ 9 ∷ 48 ∷ 10 ∷ 87 ∷ 9 ∷ 48 ∷ 9 ∷ 48 ∷ 9 ∷ 48 ∷ 9 ∷ 48 ∷ 10 ∷ 83 ∷ 9 ∷ 48 ∷ 9 ∷ 48 ∷ 9 ∷ 48 ∷ 9 ∷ 48 ∷ 10 ∷ []) (65 ∷ 9 ∷ 48 ∷ 9 ∷ 48 ∷ 10 ∷ 82 ∷ 9 ∷ 48 ∷ 9 ∷ 51 ∷ 10 ∷ [])
-    -- 1 before 2; 2; 5 before 6; 6; 8
-    ∷ prints (84 ∷ 9 ∷ 52 ∷ 9 ∷ 45 ∷ 49 ∷ 48 ∷ 48 ∷ 48 ∷ 48 ∷ 48 ∷ 49 ∷ 10 ∷ []) (82 ∷ 9 ∷ 49 ∷ 9 ∷ 49 ∷ 10 ∷ [])
-    ∷ prints (84 ∷ 9 ∷ 51 ∷ 9 ∷ 49 ∷ 10 ∷ []) (82 ∷ 9 ∷ 50 ∷ 9 ∷ 49 ∷ 10 ∷ [])
-    ∷ prints (84 ∷ 9 ∷ 49 ∷ 9 ∷ 49 ∷ 10 ∷ 83 ∷ 9 ∷ 48 ∷ 9 ∷ 48 ∷ 9 ∷ 49 ∷ 9 ∷ 53 ∷ 51 ∷ 54 ∷ 56 ∷ 55 ∷ 48 ∷ 57 ∷ 49 ∷ 51 ∷ 10 ∷ []) (82 ∷ 9 ∷ 53 ∷ 9 ∷ 50 ∷ 10 ∷ [])
-    ∷ prints (84 ∷ 9 ∷ 49 ∷ 9 ∷ 49 ∷ 10 ∷ 83 ∷ 9 ∷ 48 ∷ 9 ∷ 48 ∷ 9 ∷ 49 ∷ 9 ∷ 49 ∷ 10 ∷ []) (82 ∷ 9 ∷ 54 ∷ 9 ∷ 50 ∷ 10 ∷ [])
-    ∷ prints (84 ∷ 9 ∷ 49 ∷ 9 ∷ 49 ∷ 10 ∷ 87 ∷ 9 ∷ 49 ∷ 9 ∷ 48 ∷ 9 ∷ 48 ∷ 9 ∷ 48 ∷ 10 ∷ []) (82 ∷ 9 ∷ 56 ∷ 9 ∷ 50 ∷ 10 ∷ [])
-    -- the 257th S line, after one T line: 3
-    ∷ prints (84 ∷ 9 ∷ 49 ∷ 9 ∷ 49 ∷ 10 ∷ joined (replicate 257 (83 ∷ 9 ∷ 48 ∷ 9 ∷ 48 ∷ 9 ∷ 48 ∷ 9 ∷ 48 ∷ 10 ∷ []))) (82 ∷ 9 ∷ 51 ∷ 9 ∷ 50 ∷ 53 ∷ 56 ∷ 10 ∷ [])
+-- ---- the starred calls of "Examples on both sides"
+
+abbrev pub starred : List Row
+starred =
+    -- base 8, segment stride −4, coordinate stride 1, n = 3, 12 cells: accepted
+    scan (cells "0 1 2 3 4 5 6 7 8 9 10 11") (descriptor "1 8 0 3 -4 1") (window "0 4 0 4") (sevens 3) (reply "0 1 0 0", cells "2 7 7")
+    -- base 7: 4
+    ∷ scan (cells "0 1 2 3 4 5 6 7 8 9 10 11") (descriptor "1 7 0 3 -4 1") (window "0 4 0 4") (sevens 3) (reply "4 0 0 0", sevens 3)
+    -- (0,2)-(6,2), kind 2, lower bound 1; the words after W(n) keep their values
+    ∷ build (cells "0 2 6 2") (descriptor "2 0 1 1 4 1") (sevens 20) (reply "0 18 0 0", cells "1 1 1 0 0 2 6 2 0 0 0 1 0 0 0 0 0 0 7 7")
+    -- the program's table and window: count 2, visits 13, numbers 1 and 2; the cell after keeps its value
+    ∷ ask (cells "0 2 6 2 4 0 4 5 9 9 9 9") (descriptor "2 0 1 3 4 1") (zeros 58) (window "3 5 1 3") (sevens 3) (reply "0 2 13 0", cells "1 2 7")
+    ∷ prints (bytes "T\t2\t1\nS\t0\t2\t6\t2\nS\t4\t0\t4\t5\nS\t9\t9\t9\t9\nW\t3\t5\t1\t3\n") (bytes "A\t2\t13\t1\t2\n")
     ∷ []
 
+-- ---- nine marks with ties in every key: equal x, y, near, far and level, a turned segment, a point, a left and a right block
+
+abbrev tied : List ℤ
+tied = cells "1 2 7 2 0 4 6 4 6 2 0 2 0 2 6 2 3 5 3 0 3 8 4 8 2 6 4 6 0 7 0 7 4 1 8 1"
+
+abbrev tiedWords : List ℤ
+tiedWords =
+    cells "9 10 8 1"
+    ++ (cells "1 2 7 2 0 4 6 4 0 2 6 2 0 2 6 2 3 0 3 5 3 8 4 8 2 6 4 6 0 7 0 7 4 1 8 1"
+    -- five levels, positions then counts
+    ++ (cells "4 8 0 2 3 1 6 7 5 0 0 0 1 2 3 4 4 5"
+    ++ (cells "0 2 3 1 7 4 8 6 5 0 0 1 2 3 0 1 1 2"
+    ++ (cells "2 3 1 0 7 4 6 8 5 0 1 2 0 0 0 0 0 0"
+    ++ (cells "2 3 1 7 0 6 4 5 8 0 1 0 0 0 0 0 0 0"
+    ++ (cells "2 3 1 7 0 6 4 5 8 0 0 0 0 0 0 0 0 0"
+    -- the horizontals: centre and sizes, low queue, high queue, zeros; the left block; the right block and its own right block
+    ++ (cells "1 4 1 3" ++ (cells "2 2 3 2 0 0 1 0" ++ (cells "0 2 2 2 3 0 1 0" ++ (zeros 12
+    ++ (cells "0 1 0 0 7 0 7 0"
+    ++ (cells "3 2 0 1 6 8 5 0 6 8 5 0 0 0 0 0"
+    ++ (cells "4 1 0 0 8 0 8 0"
+    -- the verticals
+    ++ cells "0 1 0 0 4 0 4 0")))))))))))))
+
+-- ---- words
+
+abbrev wordRows : List Row
+wordRows =
+    words 0 4
+    ∷ words 1 18
+    ∷ words 2 36
+    ∷ words 3 58
+    ∷ words 4 76
+    -- n = 4,096 fits, 4,097 gives 3
+    ∷ wordsToC (pos 4096) (pos 155652)
+    ∷ wordsToC (pos 4097) (negℤ (pos 3))
+    ∷ []
+
+-- ---- the builder's order: 1, 2, 3, 4, 7, 5, 6
+
+abbrev builderRows : List Row
+builderRows =
+    -- kind 4; with it a lower bound, n and a stride beyond their limits, and no index words
+    build (cells "0 2 6 2") (descriptor "4 0 1000001 4097 1048577 1") [] (reply "1 0 0 0", [])
+    -- kind 3 and lower bound 1
+    ∷ build (cells "0 2 6 2") (descriptor "3 0 1 4097 1048577 1") [] (reply "2 0 0 0", [])
+    ∷ build (cells "0 2 6 2") (descriptor "3 0 0 4097 1048577 1") [] (reply "3 0 0 0", [])
+    ∷ build (cells "0 2 6 2") (descriptor "3 0 0 1 1048577 1") [] (reply "4 0 0 0", [])
+    -- a cell outside the table
+    ∷ build (cells "0 2 6 2") (descriptor "3 1 0 1 4 1") (sevens 17) (reply "4 0 0 0", sevens 17)
+    -- a word too few, and a slanted segment with a coordinate beyond its limits
+    ∷ build (cells "0 0 1 536870913") (descriptor "3 0 0 1 4 1") (sevens 17) (reply "7 0 0 0", sevens 17)
+    -- 5 at position 1, though 6 would be given at position 0
+    ∷ build (cells "0 0 1 1 0 0 0 536870913") (descriptor "3 0 0 2 4 1") (sevens 36) (reply "5 0 0 1", sevens 36)
+    -- 6, the first such position
+    ∷ build (cells "0 0 1 0 0 0 1 1 0 0 2 2") (descriptor "3 0 0 3 4 1") (sevens 58) (reply "6 0 0 1", sevens 58)
+    -- with n = 0 base may be anything, but strides are judged
+    ∷ build [] (descriptor "1 -9223372036854775808 5 0 0 0") (sevens 5) (reply "0 4 0 0", cells "0 5 0 0 7")
+    ∷ build [] (descriptor "1 0 5 0 0 -1048577") (sevens 5) (reply "4 0 0 0", sevens 5)
+    -- lower bounds at their limits
+    ∷ build [] (descriptor "1 0 -1000000 0 0 0") (sevens 4) (reply "0 4 0 0", cells "0 -1000000 0 0")
+    ∷ build [] (descriptor "1 0 -1000001 0 0 0") (sevens 4) (reply "2 0 0 0", sevens 4)
+    -- the end smaller in (x, y) first; a point counts as horizontal
+    ∷ build (cells "6 2 0 2") (descriptor "1 0 0 1 4 1") (sevens 18) (reply "0 18 0 0", cells "1 0 1 0 0 2 6 2 0 0 0 1 0 0 0 0 0 0")
+    ∷ build (cells "4 5 4 0") (descriptor "1 0 0 1 4 1") (sevens 18) (reply "0 18 0 0", cells "1 0 0 1 4 0 4 5 0 0 0 1 0 0 0 0 0 0")
+    ∷ build (cells "9 9 9 9") (descriptor "1 0 0 1 4 1") (sevens 18) (reply "0 18 0 0", cells "1 0 1 0 9 9 9 9 0 0 9 1 0 0 0 0 0 0")
+    ∷ build tied (descriptor "1 0 10 9 4 1") (sevens 203) (reply "0 202 0 0", tiedWords ++ sevens 1)
+    ∷ []
+
+-- ---- the scan's order: 1, 2, 3, 4, 8, 7, 5
+
+abbrev scanRows : List Row
+scanRows =
+    scan (cells "0 2 6 2") (descriptor "0 0 1000001 -1 0 1048577") (window "1 0 0 0") [] (reply "1 0 0 0", [])
+    ∷ scan (cells "0 2 6 2") (descriptor "1 0 1000001 -1 0 1048577") (window "1 0 0 0") [] (reply "2 0 0 0", [])
+    ∷ scan (cells "0 2 6 2") (descriptor "1 0 0 -1 0 1048577") (window "1 0 0 0") [] (reply "3 0 0 0", [])
+    ∷ scan (cells "0 2 6 2") (descriptor "1 0 0 1 0 1048577") (window "1 0 0 0") [] (reply "4 0 0 0", [])
+    ∷ scan (cells "0 0 0 536870913") (descriptor "1 0 0 1 0 1") (window "1 0 0 0") [] (reply "8 0 0 0", [])
+    ∷ scan (cells "0 0 0 536870913") (descriptor "1 0 0 1 0 1") (window "0 0 0 0") [] (reply "7 0 0 0", [])
+    ∷ scan (cells "0 0 0 536870913") (descriptor "1 0 0 1 0 1") (window "0 0 0 0") (sevens 1) (reply "5 0 0 0", sevens 1)
+    -- slanted segments, listed ascending from the lower bound; the cell after keeps its value
+    ∷ scan (cells "-2 2 2 6 -2 3 2 7 4 4 9 9") (descriptor "1 0 -1 3 4 1") (window "0 4 0 4") (sevens 3) (reply "0 2 0 0", cells "-1 1 7")
+    -- the same segments from coordinate to coordinate, and the last position first; the coordinate limits themselves are no fault
+    ∷ scan (cells "-2 -2 4 2 3 4 2 2 9 6 7 9") (descriptor "1 0 -1 3 1 3") (window "0 4 0 4") (sevens 3) (reply "0 2 0 0", cells "-1 1 7")
+    ∷ scan (cells "-2 2 2 6 -2 3 2 7 4 4 9 9") (descriptor "1 8 -1 3 -4 1") (window "0 4 0 4") (sevens 3) (reply "0 2 0 0", cells "-1 1 7")
+    ∷ scan (cells "-536870912 0 536870912 0") (descriptor "3 0 0 1 4 1") (window "536870912 536870912 0 0") (sevens 1) (reply "0 1 0 0", cells "0")
+    ∷ []
+
+-- ---- the query's order: 9, 8, 7, 10; below, the index of one segment (0,2)-(6,2) with a word changed
+
+abbrev queryRows : List Row
+queryRows =
+    -- 9: three words; n beyond its limits; a lower bound; a negative count; counts that do not add to n; fewer than W(n)
+    query (cells "1 1 1") (window "1 0 0 0") [] (reply "9 0 0 0", [])
+    ∷ query (cells "4097 1 1 0 0 2 6 2 0 0 0 1 0 0 0 0 0 0") (window "1 0 0 0") [] (reply "9 0 0 0", [])
+    ∷ query (cells "1 1000001 1 0 0 2 6 2 0 0 0 1 0 0 0 0 0 0") (window "1 0 0 0") [] (reply "9 0 0 0", [])
+    ∷ query (cells "1 1 -1 2 0 2 6 2 0 0 0 1 0 0 0 0 0 0") (window "1 0 0 0") [] (reply "9 0 0 0", [])
+    ∷ query (cells "1 1 2 -1 0 2 6 2 0 0 0 1 0 0 0 0 0 0") (window "1 0 0 0") [] (reply "9 0 0 0", [])
+    ∷ query (cells "1 1 1 1 0 2 6 2 0 0 0 1 0 0 0 0 0 0") (window "1 0 0 0") [] (reply "9 0 0 0", [])
+    ∷ query (cells "1 1 1 0 0 2 6 2 0 0 0 1 0 0 0 0 0") (window "1 0 0 0") [] (reply "9 0 0 0", [])
+    -- 8 with too few cells; 7 with a spoiled position word
+    ∷ query (cells "1 1 1 0 0 2 6 2 0 0 0 1 0 0 0 0 0 0") (window "1 0 0 0") [] (reply "8 0 0 0", [])
+    ∷ query (cells "1 1 1 0 0 2 6 2 1 0 0 1 0 0 0 0 0 0") (window "3 5 1 3") [] (reply "7 0 0 0", [])
+    -- 10: the position word; the first n cells are 0, the cell after keeps its value
+    ∷ query (cells "1 1 1 0 0 2 6 2 1 0 0 1 0 0 0 0 0 0") (window "3 5 1 3") (sevens 2) (reply "10 0 0 0", cells "0 7")
+    -- 10: s + ml + mr ≠ m; s < 1 though the sum fits; ml or mr negative though the sum fits
+    ∷ query (cells "1 1 1 0 0 2 6 2 0 0 0 2 0 0 0 0 0 0") (window "3 5 1 3") (sevens 2) (reply "10 0 0 0", cells "0 7")
+    ∷ query (cells "1 1 1 0 0 2 6 2 0 0 0 0 1 0 0 0 0 0") (window "3 5 1 3") (sevens 2) (reply "10 0 0 0", cells "0 7")
+    ∷ query (cells "1 1 1 0 0 2 6 2 0 0 0 1 -1 1 0 0 0 0") (window "3 5 1 3") (sevens 2) (reply "10 0 0 0", cells "0 7")
+    ∷ query (cells "1 1 1 0 0 2 6 2 0 0 0 1 1 -1 0 0 0 0") (window "3 5 1 3") (sevens 2) (reply "10 0 0 0", cells "0 7")
+    -- 10: a number is due and n are listed: the centre is changed, so that the segment comes twice
+    ∷ query (cells "1 1 1 0 0 2 6 2 0 0 -5 1 0 0 0 0 0 0") (window "0 5 1 3") (sevens 2) (reply "10 0 0 0", cells "0 7")
+    -- a record's level is taken from its low end: a vertical and a horizontal whose other word is changed
+    ∷ query (cells "1 1 0 1 4 0 9 5 0 0 0 1 0 0 0 0 0 0") (window "3 5 1 3") (sevens 1) (reply "0 1 4 0", cells "1")
+    ∷ query (cells "1 1 1 0 0 2 6 9 0 0 0 1 0 0 0 0 0 0") (window "3 5 1 3") (sevens 1) (reply "0 1 4 0", cells "1")
+    -- 10: a count that leaves more than the right size (slot 2 of three, 0 to the left, so 2 to a right side of one)
+    ∷ query (cells "3 1 2 1 0 2 6 2 4 0 4 5 9 9 9 9 1 0 2 0 1 0 1 0 2 0 0 0 0 1 2 0 0 0 9 1 1 0 2 0 2 0 0 1 0 0 0 0 0 0 0 1 0 0 1 0 1 0") (window "3 5 3 9") (sevens 3) (reply "10 0 0 0", zeros 3)
+    -- a sound index, and one that goes on after W(n)
+    ∷ query (cells "1 1 1 0 0 2 6 2 0 0 0 1 0 0 0 0 0 0") (window "3 5 1 3") (sevens 2) (reply "0 1 4 0", cells "1 7")
+    ∷ query (cells "1 1 1 0 0 2 6 2 0 0 0 1 0 0 0 0 0 0 5 5") (window "3 5 1 3") (sevens 2) (reply "0 1 4 0", cells "1 7")
+    -- with n = 0 there are no visits
+    ∷ query (cells "0 1 0 0") (window "3 5 1 3") (sevens 1) (reply "0 0 0 0", sevens 1)
+    -- ties: a band that begins and ends at a split; an edge at a far end; an edge at a centre; y beyond all; a point; a column; all
+    ∷ query tiedWords (window "1 3 2 2") (sevens 9) (reply "0 4 26 0", cells "10 12 13 14 7 7 7 7 7")
+    ∷ query tiedWords (window "7 9 2 2") (sevens 9) (reply "0 1 14 0", cells "10 7 7 7 7 7 7 7 7")
+    ∷ query tiedWords (window "2 3 9 9") (sevens 9) (reply "0 0 17 0", sevens 9)
+    ∷ query tiedWords (window "0 0 7 7") (sevens 9) (reply "0 1 17 0", cells "17 7 7 7 7 7 7 7 7")
+    ∷ query tiedWords (window "4 4 0 9") (sevens 9) (reply "0 7 24 0", cells "18 10 12 13 11 16 15 7 7")
+    ∷ query tiedWords (window "0 8 0 8") (sevens 9) (reply "0 9 20 0", cells "14 18 10 12 13 11 16 17 15")
+    -- 10: a count above its place; a count above the left size
+    ∷ query (cells "3 1 2 1 0 2 6 2 4 0 4 5 9 9 9 9 1 0 2 0 2 2 1 0 2 0 0 0 0 1 2 0 0 0 9 1 1 0 2 0 2 0 0 1 0 0 0 0 0 0 0 1 0 0 1 0 1 0") (window "3 5 1 3") (sevens 3) (reply "10 0 0 0", zeros 3)
+    ∷ query (set tiedWords 56 (pos 6)) (window "2 3 7 9") (sevens 9) (reply "10 0 0 0", zeros 9)
+    ∷ []
+
+-- ---- C hosts: 3, 4, 11; a length below 0 holds no cell; 8, 5
+
+abbrev hostRows : List Row
+hostRows =
+    cellToC "12 8 3 -4 1 2 3" (pos 3)
+    ∷ cellToC "12 7 3 -4 1 0 0" (negℤ (pos 4))
+    ∷ cellToC "12 8 -1 1048577 1 3 0" (negℤ (pos 3))
+    ∷ cellToC "12 8 3 1048577 1 3 0" (negℤ (pos 4))
+    ∷ cellToC "12 8 3 -4 1 3 0" (negℤ (pos 11))
+    ∷ cellToC "12 8 3 -4 1 -1 0" (negℤ (pos 11))
+    ∷ cellToC "12 8 3 -4 1 0 4" (negℤ (pos 11))
+    ∷ cellToC "-1 0 1 0 0 0 0" (negℤ (pos 4))
+    -- with n = 0 no position is there
+    ∷ cellToC "0 0 0 0 0 0 0" (negℤ (pos 11))
+    ∷ meetToC (segment "0 0 0 536870913") (window "1 0 0 0") (negℤ (pos 8))
+    ∷ meetToC (segment "0 0 0 536870913") (window "0 1 0 0") (negℤ (pos 5))
+    ∷ meetToC (segment "0 0 6 6") (window "3 3 3 3") (pos 1)
+    ∷ meetToC (segment "0 0 6 5") (window "3 3 3 3") (pos 0)
+    ∷ []
+
+-- ---- the program
+
+abbrev programRows : List Row
+programRows =
+    -- empty input prints nothing, and so does a T line alone
+    prints (bytes "") (bytes "")
+    ∷ prints (bytes "T\t1\t0\n") (bytes "")
+    -- 0: an empty line, -0, a leading zero, 11 digits, +1, a carriage return, a further field, a line in another place
+    ∷ prints (bytes "\n") (bytes "R\t0\t1\n")
+    ∷ prints (bytes "T\t-0\t0") (bytes "R\t0\t1\n")
+    ∷ prints (bytes "T\t1\t00") (bytes "R\t0\t1\n")
+    ∷ prints (bytes "T\t1\t12345678901") (bytes "R\t0\t1\n")
+    ∷ prints (bytes "T\t1\t+1") (bytes "R\t0\t1\n")
+    ∷ prints (bytes "T\t1\t1\r\n") (bytes "R\t0\t1\n")
+    ∷ prints (bytes "T\t1\t1\t1\n") (bytes "R\t0\t1\n")
+    ∷ prints (bytes "T\t1\t0\nT\t1\t0\n") (bytes "R\t0\t2\n")
+    -- with no S each W prints count 0 and visits 0 and no further tab; what was printed before a fault stays
+    ∷ prints (bytes "T\t1\t0\nW\t0\t0\t0\t0\nS\t0\t0\t0\t0\n") (bytes "A\t0\t0\nR\t0\t3\n")
+    -- ten digits are a number: 2, as is kind 3 with lower bound 1; 1 before 2
+    ∷ prints (bytes "T\t1\t1234567890\n") (bytes "R\t2\t1\n")
+    ∷ prints (bytes "T\t3\t1\n") (bytes "R\t2\t1\n")
+    ∷ prints (bytes "T\t4\t-1000001\n") (bytes "R\t1\t1\n")
+    -- 5 before 6; 6; 8
+    ∷ prints (bytes "T\t1\t1\nS\t0\t0\t1\t536870913\n") (bytes "R\t5\t2\n")
+    ∷ prints (bytes "T\t1\t1\nS\t0\t0\t1\t1\n") (bytes "R\t6\t2\n")
+    ∷ prints (bytes "T\t1\t1\nW\t1\t0\t0\t0\n") (bytes "R\t8\t2\n")
+    -- the last line feed may be missing; numbers below 0 are printed with a minus
+    ∷ prints (bytes "T\t1\t-1\nS\t0\t0\t0\t0\nW\t0\t0\t0\t0") (bytes "A\t1\t5\t-1\n")
+    -- the 257th S line, after one T line: 3
+    ∷ prints (bytes "T\t1\t1\n" ++ joined (replicate 257 (bytes "S\t0\t0\t0\t0\n"))) (bytes "R\t3\t258\n")
+    ∷ []
+
+abbrev table : List Row
+table = starred ++ (wordRows ++ (builderRows ++ (scanRows ++ (queryRows ++ (hostRows ++ programRows)))))
+
 pub examples : All table
-unfolding positions filter count any last joined insert sort addressed segmentsOf digitsTo nodes levelWords levelsWords queueWordsTo blockWordsTo indexWords searchTo slotsWalk nodeAt nodeWalk queueAt queueWalkTo blockAt blockWalkTo walk step run walkOf built listing queried scanned hostCell hostWords hostMeet parts withoutEmptyLast valueFrom numbersIn lineOf decimalTo tabbed read fromLine program
+unfolding bytes positions filter count any last joined insert sort addressed segmentsOf digitsTo nodes levelWords levelsWords queueWordsTo blockWordsTo indexWords searchTo slotsWalk nodeAt nodeWalk queueAt queueWalkTo blockAt blockWalkTo walk step run walkOf built listing queried scanned hostCell hostWords hostMeet parts withoutEmptyLast valueFrom numbersIn lineOf decimalTo tabbed read fromLine program
 examples = every table tt

@@ -1,17 +1,21 @@
 -- Examples as rows of a table: what a row says, a test of it that antt computes, and that a table whose rows all pass says true things.
 -- Meaning is in `Says` alone; the rest is proof.
 use mathlib.Core.Path.{_≡_, refl, ap, ap₂}
-use mathlib.Core.Bool.{Bool, true, false, _&&_}
-use mathlib.Core.List.{List, [], _∷_}
+use mathlib.Core.Bool.{Bool, true, false, _&&_, cond}
+use mathlib.Core.List.{List, [], _∷_, map}
 use Prim.Native.Nat.{ℕ}
-use native.Mathlib.Omega.{arith}
-use lib.Dec.{T, leb, leb→le, eqb, eqb→eq}
+use lib.Dec.{T, eqb, eqb→eq}
 use lib.IntN.{ℤ, pos, negsuc, negℤ}
+use lib.ListN.{getD, replicate}
+use Prim.Native.Char.{code}
+use Prim.Native.String.{String}
 use Rattle.lists.specs.Plain.{same}
+use Rattle.lists.specs.Tests.{fst-of, snd-of}
+use Rattle.lists.specs.Orders.{same-equal}
 use Rattle.paper.specs.Words.{W}
 use Rattle.paper.specs.Results.{Result, built, queried, scanned}
 use Rattle.paper.specs.Hosts.{hostCell, hostWords, hostMeet}
-use Rattle.paper.specs.Lines.{program}
+use Rattle.paper.specs.Lines.{minus, parts, valueFrom, program}
 use Rattle.paper.specs.Corners.{weighed}
 use Rattle.paper.specs.declared.Descriptor.{Descriptor}
 use Rattle.paper.specs.declared.Segment.{Segment}
@@ -83,20 +87,13 @@ holds (prints text r) = sameBytes (program text) r
 -- ---- a test that passes says a true thing
 
 both : (x y : Bool) → T (x && y) → T x × T y
-both true y t = (tt, t)
-both false y t = absurd t
-
-pub same-eq : (y z : ℤ) → T (same y z) → y ≡ z
-same-eq (pos m) (pos n) t = let b = both (leb m n) (leb n m) t in ap {B = ℤ} (λ k. pos k) (omega (arith, leb→le m n (b .0), leb→le n m (b .1)))
-same-eq (pos m) (negsuc n) t = absurd t
-same-eq (negsuc m) (pos n) t = absurd t
-same-eq (negsuc m) (negsuc n) t = let b = both (leb n m) (leb m n) t in ap {B = ℤ} (λ k. negsuc k) (omega (arith, leb→le n m (b .0), leb→le m n (b .1)))
+both x y t = (fst-of x y t, snd-of x y t)
 
 pub list-eq : (xs ys : List ℤ) → T (sameList xs ys) → xs ≡ ys
 list-eq [] [] t = refl
 list-eq [] (y ∷ ys) t = absurd t
 list-eq (x ∷ xs) [] t = absurd t
-list-eq (x ∷ xs) (y ∷ ys) t = let b = both (same x y) (sameList xs ys) t in ap₂ (λ (u : ℤ) (v : List ℤ). u ∷ v) (same-eq x y (b .0)) (list-eq xs ys (b .1))
+list-eq (x ∷ xs) (y ∷ ys) t = let b = both (same x y) (sameList xs ys) t in ap₂ (λ (u : ℤ) (v : List ℤ). u ∷ v) (same-equal x y (b .0)) (list-eq xs ys (b .1))
 
 pub bytes-eq : (xs ys : List ℕ) → T (sameBytes xs ys) → xs ≡ ys
 bytes-eq [] [] t = refl
@@ -109,10 +106,10 @@ reply-eq r s t =
     let a = both (same (r .number) (s .number)) _ t in
     let b = both (same (r .count) (s .count)) _ (a .1) in
     let c = both (same (r .visits) (s .visits)) _ (b .1) in
-    let e = same-eq (r .number) (s .number) (a .0) in
-    let f = same-eq (r .count) (s .count) (b .0) in
-    let g = same-eq (r .visits) (s .visits) (c .0) in
-    let h = same-eq (r .position) (s .position) (c .1) in
+    let e = same-equal (r .number) (s .number) (a .0) in
+    let f = same-equal (r .count) (s .count) (b .0) in
+    let g = same-equal (r .visits) (s .visits) (c .0) in
+    let h = same-equal (r .position) (s .position) (c .1) in
     λ i. record { number = e i; count = f i; visits = g i; position = h i }
 
 result-eq : (r s : Result) → T (sameResult r s) → r ≡ s
@@ -126,9 +123,9 @@ row-says (query ws w numbers r) t = result-eq (queried ws w numbers) r t
 row-says (ask table d index w numbers r) t = result-eq (queried (built table d index .1) w numbers) r t
 row-says (scan table d w numbers r) t = result-eq (scanned (weighed w) table d w numbers) r t
 row-says (words n k) t = eqb→eq (W n) k t
-row-says (cell len base n segment coordinate i j r) t = same-eq (hostCell len base n segment coordinate i j) r t
-row-says (wordsToC n r) t = same-eq (hostWords n) r t
-row-says (meetToC s w r) t = same-eq (hostMeet (weighed w) s w) r t
+row-says (cell len base n segment coordinate i j r) t = same-equal (hostCell len base n segment coordinate i j) r t
+row-says (wordsToC n r) t = same-equal (hostWords n) r t
+row-says (meetToC s w r) t = same-equal (hostMeet (weighed w) s w) r t
 row-says (prints text r) t = bytes-eq (program text) r t
 
 abbrev pub All : List Row → Type 0
@@ -143,22 +140,52 @@ pub every : (rs : List Row) → T (all rs) → All rs
 every [] t = tt
 every (r ∷ rs) t = let b = both (holds r) (all rs) t in (row-says r (b .0), every rs (b .1))
 
--- ---- short forms for rows
+-- ---- short forms for rows: a text stands for its bytes, or for the whole numbers in it, parted by single spaces
 
-abbrev pub + : ℕ → ℤ
-+ n = pos n
+unfoldable pub bytes : String → List ℕ
+bytes String.[] = []
+bytes (String._∷_ c s) = code c ∷ bytes s
 
-abbrev pub - : ℕ → ℤ
-- n = negℤ (pos n)
+abbrev pub signed : List ℕ → ℤ
+signed [] = pos 0
+signed (b ∷ ds) = cond (eqb b minus) (negℤ (pos (valueFrom 0 ds))) (pos (valueFrom 0 (b ∷ ds)))
 
-abbrev pub descriptor : (kind base lower extent segment coordinate : ℤ) → Descriptor
-descriptor kind base lower extent segment coordinate = record { kind = kind; base = base; lower = lower; extent = extent; «segment_stride» = segment; «coordinate_stride» = coordinate }
+abbrev pub cells : String → List ℤ
+cells text = map signed (parts 32 (bytes text))
 
-abbrev pub segment : (x1 y1 x2 y2 : ℤ) → Segment
-segment x1 y1 x2 y2 = record { x1 = x1; y1 = y1; x2 = x2; y2 = y2 }
+-- a lent buffer of which every cell is 7, and one of zeros
+abbrev pub sevens : ℕ → List ℤ
+sevens n = replicate n (pos 7)
 
-abbrev pub window : (a b c d : ℤ) → Window
-window a b c d = record { a = a; b = b; c = c; d = d }
+abbrev pub zeros : ℕ → List ℤ
+zeros n = replicate n (pos 0)
 
-abbrev pub reply : (number count visits position : ℤ) → Reply
-reply number count visits position = record { number = number; count = count; visits = visits; position = position }
+abbrev pub number : String → ℕ → ℤ
+number text i = getD (cells text) i (pos 0)
+
+-- kind, base, lower bound, n, segment stride, coordinate stride
+abbrev pub descriptor : String → Descriptor
+descriptor text = record {
+  kind = number text 0;
+  base = number text 1;
+  lower = number text 2;
+  extent = number text 3;
+  «segment_stride» = number text 4;
+  «coordinate_stride» = number text 5;
+}
+
+-- x1 y1 x2 y2
+abbrev pub segment : String → Segment
+segment text = record { x1 = number text 0; y1 = number text 1; x2 = number text 2; y2 = number text 3 }
+
+-- a b c d
+abbrev pub window : String → Window
+window text = record { a = number text 0; b = number text 1; c = number text 2; d = number text 3 }
+
+-- number, count, visits, position
+abbrev pub reply : String → Reply
+reply text = record { number = number text 0; count = number text 1; visits = number text 2; position = number text 3 }
+
+-- C hosts: what a text of seven numbers asks (length, base, n, strides, position, coordinate)
+abbrev pub cellToC : String → ℤ → Row
+cellToC text r = cell (number text 0) (number text 1) (number text 2) (number text 3) (number text 4) (number text 5) (number text 6) r
