@@ -1,0 +1,42 @@
+use mathlib.Core.Path.{_≡_, sym, ap, ap₂, _∙_, subst}
+use mir.Syntax.{w64}
+use Rattle.whole.specs.Whole.{kept}
+use Rattle.paper.specs.Lines.{asWindow}
+use Rattle.fields.specs.Forms.{numbersFrom, madeOf, form-W}
+use borrow.Author.Needs.{needs}
+use Rattle.fields.proofs.window_line.Statement.{statement}
+use Rattle.fields.proofs.window_line.Tie as tie
+use Rattle.fields.proofs.window_line.Reads as reads
+use Rattle.fields.proofs.window_line.Lts as lts
+use Rattle.fields.proofs.four_at.Reads as four-at-reads
+
+-- src/lib.rt:240:33
+four-at-requires : tie.Need-four-at-requires
+four-at-requires c κs = search needs
+
+-- src/lib.rt:240:19
+enum-known-a : tie.Need-enum-known-a
+enum-known-a c = search needs
+
+-- src/lib.rt:241:9
+enum-told : tie.Need-enum-told
+enum-told c = search needs
+
+-- src/lib.rt:241:9
+returns : tie.Need-returns
+returns c = ap (madeOf asWindow) (sym (c .enum-told .given .1)) ∙ c .before .before .four-at .ensures asWindow ∙ form-W (numbersFrom (c .before .before .before .before .args .f .now) 2)
+
+-- src/lib.rt:237:1
+returns-2 : tie.Need-returns-2
+returns-2 c =
+    let x = c .before .a .given in
+    let i = c .known-told .given in
+    let a = kept w64 (x .0 .0) (i .0 .1) in
+    let b = kept w64 (x .0 .1 .0) (i .1 .0 .1) in
+    let d = kept w64 (x .0 .1 .1 .0) (i .1 .1 .0 .1) in
+    let e = kept w64 (x .0 .1 .1 .1 .0) (i .1 .1 .1 .0 .1) in
+    rw (a, b, d, e)
+    (ap (madeOf asWindow) (sym (x .1)) ∙ c .before .before .before .four-at .ensures asWindow ∙ form-W (numbersFrom (c .before .before .before .before .before .args .f .now) 2))
+
+pub window-line-spec : {M : Type 1} → statement M
+window-line-spec = tie.close (tie.spec four-at-requires enum-known-a enum-told returns returns-2)
