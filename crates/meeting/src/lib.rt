@@ -1,0 +1,102 @@
+// Whether a segment meets a window: the box comparison first and apart, then the window's four corners weighed against the segment's line.
+// A caller tests `bad_window` and the segment's limits (answers 8 and 5) first.
+ghost use mathlib.Core.Path.{_≡_};
+ghost use mathlib.Core.Bool.{true, false, _&&_};
+ghost use mathlib.Core.Logic.{_↔_};
+ghost use lib.IntN.{pos};
+ghost use lib.Signed.{leZ};
+ghost use Rattle.paper.specs.Corners.{overlaps, weight as Weight, weighed};
+ghost use Rattle.paper.specs.Meeting.{Meets};
+ghost use Rattle.paper.specs.Answers.{badWindow, farOff};
+ghost use Rattle.meeting.specs.Bounds.{Small, Near, Framed, SmallPoints};
+ghost use Rattle.meeting.specs.Gap.{least, greatest};
+ghost use Rattle.meeting.specs.Sides.{bothSides};
+use paper::Segment;
+use paper::Window;
+
+// Answer 8.
+pub fn bad_window(w: Window) -> bool
+    ensures { λ r. ⌜ r ≡ badWindow w .given ⌝ }
+{
+    let a = (-536870912 <= w.a) & (w.a <= 536870912);
+    let b = (-536870912 <= w.b) & (w.b <= 536870912);
+    let c = (-536870912 <= w.c) & (w.c <= 536870912);
+    let d = (-536870912 <= w.d) & (w.d <= 536870912);
+    (w.b < w.a) | (w.d < w.c) | !(a & b & c & d)
+}
+
+// ---- the boxes
+
+fn smaller(x: i64, y: i64) -> i64
+    ensures { λ r. ⌜ r ≡ least x y ⌝ }
+{
+    if x < y { x } else { y }
+}
+
+fn larger(x: i64, y: i64) -> i64
+    ensures { λ r. ⌜ r ≡ greatest x y ⌝ }
+{
+    if x < y { y } else { x }
+}
+
+// How far the edges lo..hi and the ends u1, u2 are from each other on one axis; 0 or less where they overlap.
+fn gap(lo: i64, hi: i64, u1: i64, u2: i64) -> i64
+    requires { ⌜ Small lo × Small hi × Small u1 × Small u2 ⌝ }
+    ensures { λ r. ⌜ leZ r (pos 0) ≡ overlaps lo hi u1 u2 ⌝ }
+{
+    let after = smaller(u1, u2) - hi;
+    let before = lo - larger(u1, u2);
+    larger(after, before)
+}
+
+// Whether the boxes overlap on both axes. One number is compared once: comparisons joined by `&` would be as many branches.
+fn boxes_overlap(s: Segment, w: Window) -> bool
+    requires { ⌜ Near s × Framed w ⌝ }
+    ensures { λ r. ⌜ r ≡ (overlaps (w .a) (w .b) (s .x1) (s .x2) && overlaps (w .c) (w .d) (s .y1) (s .y2)) ⌝ }
+{
+    let across = gap(w.a, w.b, s.x1, s.x2);
+    let along = gap(w.c, w.d, s.y1, s.y2);
+    larger(across, along) <= 0
+}
+
+// ---- the corners
+
+// The weight of the point (x, y) against the segment's line: its sign is the side.
+fn weight(s: Segment, x: i64, y: i64) -> i64
+    requires { ⌜ Near s × Small x × Small y ⌝ }
+    ensures { λ r. ⌜ r ≡ Weight s x y ⌝ }
+{
+    (s.x2 - s.x1) * (y - s.y1) - (s.y2 - s.y1) * (x - s.x1)
+}
+
+// Whether the corners are not all strictly on one side of the segment's line.
+fn both_sides(s: Segment, corners: [[i64; 2]; 4]) -> bool
+    requires { ⌜ Near s × SmallPoints corners ⌝ }
+    ensures { λ r. ⌜ r ≡ bothSides s corners 4 ⌝ }
+{
+    let mut above = false;
+    let mut below = false;
+    let mut k = 0;
+    while k < 4 {
+        let corner = corners[k];
+        let side = weight(s, corner[0], corner[1]);
+        above = above | (0 <= side);
+        below = below | (side <= 0);
+        k += 1;
+    }
+    above & below
+}
+
+// ---- the whole
+
+// Whether a segment meets a window, both within the limits.
+pub fn meets(s: Segment, w: Window) -> bool
+    requires { ⌜ (farOff s ≡ false) × (badWindow w .given ≡ false) ⌝ }
+    ensures { λ r. ⌜ (r ≡ weighed w s) × ((r ≡ true) ↔ Meets s w) ⌝ }
+{
+    if !boxes_overlap(s, w) {
+        return false;
+    }
+    // low-left, low-right, high-left, high-right
+    both_sides(s, [[w.a, w.c], [w.b, w.c], [w.a, w.d], [w.b, w.d]])
+}
