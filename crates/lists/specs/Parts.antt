@@ -152,6 +152,10 @@ module _ {ℓ} {A : Type ℓ} where
   unfolding win
   win-set a n o x s h = ap (take n) (drop-set-lt a s o x h)
 
+  -- a write after a part
+  pub win-set-after : (a n o : ℕ) (x : A) (s : List A) → a + n ≤ o → o < length s → win a n (set s o x) ≡ win a n s
+  win-set-after a n o x s h l = ap (win a n) (put-one o x s l) ∙ win-put-left a n o (x ∷ []) s h (omega arith)
+
 module _ {ℓ} {A : Type ℓ} where
   pub put-app : (p m r v : List A) → length m ≡ length v → put (length p) v (p ++ (m ++ r)) ≡ p ++ (v ++ r)
   unfolding put
