@@ -3,3 +3,4 @@ pub mod Taking
 pub mod Queues
 pub mod Best
 pub mod Runs
+pub mod Parting
