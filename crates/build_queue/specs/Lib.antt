@@ -2,5 +2,7 @@
 pub mod Taking
 pub mod Queues
 pub mod Best
+pub mod Ends
 pub mod Runs
 pub mod Parting
+pub mod Arranging

@@ -41,17 +41,18 @@ two [] m w h e = absurd (omega arith)
 two (y ∷ []) m w h e = absurd (omega arith)
 two (y ∷ z ∷ zs) m w h e = ap (λ x. x ∷ w ∷ []) e
 
-module _ (rs : List Segment) (axis : Axis) (end : End) where
-  abbrev pub By : ℕ → ℕ → Type 0
-  By p q = T (upTo (lower rs axis) p q)
+-- p comes no later than q by (level, position)
+abbrev pub By : List Segment → Axis → ℕ → ℕ → Type 0
+By rs axis p q = T (upTo (lower rs axis) p q)
 
+module _ (rs : List Segment) (axis : Axis) (end : End) where
   -- the two words of a queue over ps, and its two runs, each at the front of its own queue's words
   pub record Headed (ps : List ℕ) (ys : List ℤ) : Type 0 where
     pub front : win 0 2 ys ≡ pos (firstOf rs axis end ps) ∷ splitOf rs axis (firstHalf (restOf rs axis end ps)) ∷ []
     pub left : win 2 (length ps / 2) ys ≡ map pos (firstHalf (restOf rs axis end ps))
     pub right : win (2 + 2 * (length ps / 2)) (length ps - 1 - length ps / 2) ys ≡ map pos (secondHalf (restOf rs axis end ps))
 
-  module _ (xs ys : List ℤ) (s b : ℕ) (w : ℤ) (some : 0 < s) (long : length xs ≡ 2 * s) (same : length ys ≡ 2 * s) (run : Stands By (take s xs)) where
+  module _ (xs ys : List ℤ) (s b : ℕ) (w : ℤ) (some : 0 < s) (long : length xs ≡ 2 * s) (same : length ys ≡ 2 * s) (run : Stands (By rs axis) (take s xs)) where
     abbrev ps : List ℕ
     ps = named (take s xs)
 
@@ -135,13 +136,13 @@ module _ (rs : List Segment) (axis : Axis) (end : End) where
         (omega (arith, n, first-length (restOf rs axis end ps)), omega (arith, n, second-length (restOf rs axis end ps)))
 
     -- a run of the others stands as its queue asks
-    stands : (words : List ℤ) (qs : List ℕ) → words ≡ map pos qs → Sorted By qs → Stands By words
+    stands : (words : List ℤ) (qs : List ℕ) → words ≡ map pos qs → Sorted (By rs axis) qs → Stands (By rs axis) words
     stands words qs e o = record {
       plain = ap (λ k. map pos (named k)) e ∙ ap (map pos) (back-named qs) ∙ sym e;
-      order = subst (Sorted By) (sym (ap named e ∙ back-named qs)) o;
+      order = subst (Sorted (By rs axis)) (sym (ap named e ∙ back-named qs)) o;
     }
 
-    rest-order : Sorted By (restOf rs axis end ps)
+    rest-order : Sorted (By rs axis) (restOf rs axis end ps)
     rest-order = sort-sorted (lower rs axis) (lower-linear rs axis .order) (drop 1 (sort (takenBefore rs axis end) ps))
 
     first : take l (take (m - 2) (drop 2 ys)) ≡ map pos L
@@ -151,7 +152,7 @@ module _ (rs : List Segment) (axis : Axis) (end : End) where
         let h : win 2 l ys ≡ map pos L = ap (λ i. win 2 (i / 2) ys) (sym size) ∙ hd .left in
         rw k (take-win 2 l l ys (omega arith) ∙ h)
 
-    pub first-run : Stands By (take l (take (m - 2) (drop 2 ys)))
+    pub first-run : Stands (By rs axis) (take l (take (m - 2) (drop 2 ys)))
     first-run = stands _ L first (sorted-take (half (length (restOf rs axis end ps))) rest-order)
 
     module _ (e₁ : List ℤ) (is₁ : e₁ ≡ queueWords rs axis end (named (take l (take (m - 2) (drop 2 ys))))) where
@@ -181,7 +182,7 @@ module _ (rs : List Segment) (axis : Axis) (end : End) where
           ∙ win-put-right m r 2 e₁ ys (omega (arith, long₁)) (omega (arith, long₁))
           ∙ h)
 
-      pub second-run : Stands By (take r (take (length y₁ - m) (drop m y₁)))
+      pub second-run : Stands (By rs axis) (take r (take (length y₁ - m) (drop m y₁)))
       second-run = stands _ R second (sorted-drop (half (length (restOf rs axis end ps))) rest-order)
 
       module _ (e₂ : List ℤ) (is₂ : e₂ ≡ queueWords rs axis end (named (take r (take (length y₁ - m) (drop m y₁))))) where
