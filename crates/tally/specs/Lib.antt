@@ -2,3 +2,4 @@
 pub mod State
 pub mod Reads
 pub mod Fold
+pub mod Stack
