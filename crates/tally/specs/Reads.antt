@@ -1,6 +1,6 @@
 -- Words as the code reads them: a whole number or another one in a negative word's place; a record's coordinates by number.
 use mathlib.Core.Path.{_≡_, refl, sym, ap, _∙_}
-use mathlib.Core.Bool.{Bool, true, false, not, _&&_, cond}
+use mathlib.Core.Bool.{Bool, true, false, true≢false, not, _&&_, cond}
 use mathlib.Core.List.{List, [], _∷_}
 use Prim.Native.Nat.{ℕ, zero, suc, _+_, _-_, _*_, _≤_, _<_}
 use native.Mathlib.Omega.{arith}
@@ -9,7 +9,7 @@ use borrow.Author.Tests.{lt-ltb, le-ltb, le-leb, lt-leb, leb-true, leb-false}
 use lib.IntN.{ℤ, pos, negsuc, _+ℤ_}
 use lib.Signed.{leZ, ltZ}
 use lib.ListN.{length}
-use Rattle.lists.specs.Plain.{same}
+use Rattle.lists.specs.Plain.{same, toNat}
 use Rattle.paper.specs.Limits.{lowerFits}
 use Rattle.paper.specs.Words.{recordWords, recordsAt, levelsAt}
 use Rattle.paper.specs.Walk.{Event, spoiled, word, recordAt, sound, asPosition, asCount, sizesFit}
@@ -88,6 +88,15 @@ sizes-tested m (pos a) (pos b) (negsuc c) =
     ∙ sym (ap (λ (t : Bool). leb 1 a && (t && leb m (a + b + (m + 1)))) (lt-leb (a + b + (m + 1)) m (omega arith)) ∙ and-no (leb 1 a))
 sizes-tested m (pos a) (pos b) (pos c) = three m a b c
 
+sums-are : (m s ml mr : ℕ) → sums m s ml mr ≡ true → (0 < s) × (s + ml + mr ≡ m)
+sums-are m s ml mr e = go (leb 1 s) (leb (s + ml + mr) m) (leb m (s + ml + mr)) refl refl refl e
+  where
+    go : (t u v : Bool) → leb 1 s ≡ t → leb (s + ml + mr) m ≡ u → leb m (s + ml + mr) ≡ v → (t && (u && v)) ≡ true → (0 < s) × (s + ml + mr ≡ m)
+    go true true true a b c q = (leb-true 1 s a, omega (arith, leb-true (s + ml + mr) m b, leb-true m (s + ml + mr) c))
+    go true true false a b c q = absurd (true≢false (sym q))
+    go true false v a b c q = absurd (true≢false (sym q))
+    go false u v a b c q = absurd (true≢false (sym q))
+
 natural : (d k : ℕ) (z : ℤ) → k ≡ orElse d z → (k ≡ d → ⊥) → z ≡ pos k
 natural d k (pos j) e h = ap pos (sym e)
 natural d k (negsuc j) e h = absurd (h e)
@@ -112,6 +121,19 @@ module _ (m s ml mr : ℕ) (x y z : ℤ) (es : s ≡ orElse 0 x) (el : ml ≡ or
       go false u a b = refl
       go true false a b = refl
       go true true a b = absurd (h (omega (arith, leb-true (s + ml + mr) m a, leb-true m (s + ml + mr) b)))
+
+-- sizes that fit add up
+pub sizes-told : (m : ℕ) (x y z : ℤ) → sizesFit m x y z ≡ true → (0 < toNat x) × (toNat x + toNat y + toNat z ≡ m)
+sizes-told m x y z e =
+    let s = orElse 0 x in
+    let ml = orElse (m + 1) y in
+    let mr = orElse (m + 1) z in
+    let q = sums-are m s ml mr (sym (sizes-tested m x y z) ∙ e) in
+    let r = sizes-are m s ml mr x y z refl refl refl (q .0) (q .1) in
+    let es : toNat x ≡ s = ap toNat (r .0) in
+    let el : toNat y ≡ ml = ap toNat (r .1) in
+    let er : toNat z ≡ mr = ap toNat (r .2) in
+    (omega (arith, q .0), omega (arith, q .1))
 
 -- ---- a record's coordinates by number
 abbrev pub coordinate : ℕ → Segment → ℤ
