@@ -2,3 +2,4 @@ pub mod Places
 pub mod Events
 pub mod Queue
 pub mod Block
+pub mod Nodes
