@@ -64,6 +64,14 @@ module _ {A : Type 0} where
   sorted-drop (suc n) none = none
   sorted-drop (suc n) (next h s) = sorted-drop n s
 
+  -- any element and a later one
+  pub sorted-getD : {R : A → A → Type 0} {l : List A} (i j : ℕ) (d : A) → i < j → j < length l → Sorted R l → R (getD l i d) (getD l j d)
+  sorted-getD i j d h k none = absurd (omega arith)
+  sorted-getD zero zero d h k (next g s) = absurd (omega arith)
+  sorted-getD zero (suc j) d h k (next g s) = all-getD j d (omega arith) g
+  sorted-getD (suc i) zero d h k (next g s) = absurd (omega arith)
+  sorted-getD (suc i) (suc j) d h k (next g s) = sorted-getD i j d (omega arith) (omega arith) s
+
   -- ---- what passes a test
   pub all-filter : {P : A → Type 0} (t : A → Bool) {l : List A} → All P l → All (λ x. T (t x) × P x) (filter t l)
   unfolding filter

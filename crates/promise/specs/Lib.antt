@@ -3,3 +3,5 @@ pub mod Events
 pub mod Queue
 pub mod Block
 pub mod Nodes
+pub mod Tree
+pub mod Levels
