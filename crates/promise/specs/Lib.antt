@@ -5,3 +5,5 @@ pub mod Block
 pub mod Nodes
 pub mod Tree
 pub mod Levels
+pub mod LowEnds
+pub mod Groups
