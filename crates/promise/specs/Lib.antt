@@ -7,3 +7,4 @@ pub mod Tree
 pub mod Levels
 pub mod LowEnds
 pub mod Groups
+pub mod Whole

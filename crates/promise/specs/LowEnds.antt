@@ -2,7 +2,7 @@
 -- those that they list. It asks for records and levels at their places, and for nothing else: no blocks, no straight segments, no order of the edges.
 -- Use: `low-ends` is the theorem; the whole walk takes `lowEvents` and its laws.
 use mathlib.Core.Path.{_≡_, refl, sym, ap, ap₂, _∙_, subst}
-use mathlib.Core.List.{List, [], _∷_, _++_}
+use mathlib.Core.List.{List, _++_, append-assoc}
 use mathlib.Core.Bool.{Bool, true, false, not, _&&_}
 use Prim.Native.Nat.{ℕ, zero, suc, _+_, _-_, _*_, _^_, _≤_, _<_}
 use native.Mathlib.Omega.{arith}
@@ -119,12 +119,15 @@ module _ (rs : List Segment) (w : Window) where
           (count-le (λ x. not (leZ (w .c) (lowY rs x))) order))
 
       -- whatever is made of the nodes' events
-      pub low-walk : (follow : List Event → List Event) → search ws n w (λ p. follow (nodeWalk ws n w (D n - 1) n p (levelsAt n))) ≡ searching ++ follow tree
+      low-walk : (follow : List Event → List Event) → search ws n w (λ p. follow (nodeWalk ws n w (D n - 1) n p (levelsAt n))) ≡ searching ++ follow tree
       low-walk follow =
           let next : ℕ → List Event = λ p. follow (nodeWalk ws n w (D n - 1) n p (levelsAt n)) in
           search-walk rs w ws reads stand next n 0 n (omega arith) (omega arith)
           ∙ ap (λ (p : ℕ). searching ++ next p) search-finds
           ∙ ap (λ (es : List Event). searching ++ follow es) tree-is
+
+      pub low-then : (rest : List Event) → search ws n w (λ p. nodeWalk ws n w (D n - 1) n p (levelsAt n) ++ rest) ≡ lowEvents ++ rest
+      low-then rest = low-walk (λ es. es ++ rest) ∙ sym (append-assoc searching tree rest)
 
       pub low-ends : LowEnds rs w (lowWalk ws n w)
       low-ends = subst (LowEnds rs w) (sym (low-walk (λ es. es))) (record { clean = low-clean; lists = low-lists; few = omega (arith, low-visits) })
