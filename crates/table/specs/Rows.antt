@@ -1,22 +1,22 @@
 -- Answer 4, row by row: the cells of a table that is not refused, and the ends of the rows that decide it.
 use mathlib.Core.Path.{_≡_, refl, sym, ap, _∙_, subst}
-use mathlib.Core.Bool.{Bool, true, false, _||_}
+use mathlib.Core.Bool.{Bool, true, false, not, _&&_, _||_}
 use mathlib.Core.List.{map}
 use Prim.Native.Nat.{ℕ, _+_, _-_, _≤_, _<_}
 use native.Mathlib.Omega.{arith}
-use lib.IntN.{ℤ, pos, negsuc, _+ℤ_, _*ℤ_}
+use lib.IntN.{ℤ, pos, negsuc, negℤ, _+ℤ_, _*ℤ_}
 use lib.Signed.{_≤ℤ_, _<ℤ_}
 use borrow.Author.Tests.{not-false}
 use mir.Syntax.{w64}
 use mir.Val.{SFits}
 use mir.ValLaws.{toZ-ofZ}
 use Rattle.whole.specs.Whole.{#, _⊕_, _⊗_, of, whole, fits-by}
-use Rattle.lists.specs.Plain.{any, positions, toNat}
+use Rattle.lists.specs.Plain.{same, any, positions, toNat}
 use Rattle.lists.specs.Tests.{or-false, within-true}
 use Rattle.lists.specs.Choosing.{First, any-joined, any-map, any-none, any-some, none-at}
-use Rattle.paper.specs.Limits.{extentFits}
-use Rattle.paper.specs.Descriptor.{cellOf, sizeOf, addressed, outside}
-use Rattle.paper.specs.Answers.{badExtent, badCells}
+use Rattle.paper.specs.Limits.{extentFits, lowerFits}
+use Rattle.paper.specs.Descriptor.{firstNumber, cellOf, sizeOf, addressed, outside}
+use Rattle.paper.specs.Answers.{badLower, badExtent, badCells}
 use Rattle.paper.specs.declared.Descriptor.{Descriptor}
 use Rattle.table.specs.Cells.{badStride, rowOutside, Held}
 use Rattle.table.specs.Address.{R, along, inside-of, inside-fits}
@@ -39,6 +39,11 @@ cells-by len d e f = f ∙ sym (cells-are len d ∙ ap (λ b. b || any (rowOutsi
 
 row-some : (len : ℤ) (d : Descriptor) (n i j : ℕ) → i < n → j < 4 → outside len (cellOf d i j) ≡ true → any (rowOutside len d) (positions n) ≡ true
 row-some len d n i j h g e = any-some (rowOutside len d) n i h (any-some (λ j. outside len (cellOf d i j)) 4 j g e)
+
+-- ---- a first number where 2 is not given
+pub first-bounds : (kind lower : ℤ) → badLower kind lower .given ≡ false → (negℤ (pos 1000000) ≤ℤ firstNumber kind lower) × (firstNumber kind lower ≤ℤ pos 1000000)
+first-bounds kind lower e =
+    within-true (negℤ (pos 1000000)) (pos 1000000) lower (not-false (lowerFits lower) (or-false (not (lowerFits lower)) (same kind (pos 3) && not (same lower (pos 0))) e .0))
 
 -- ---- a table that 3 and 4 pass
 pub extent-of : (n : ℤ) → badExtent n .given ≡ false → (pos 0 ≤ℤ n) × (pos (toNat n) ≡ n) × (toNat n ≤ 4096)

@@ -9,7 +9,7 @@ ghost use mir.Syntax.{w64};
 ghost use mir.Val.{SFits};
 ghost use Rattle.lists.specs.Plain.{toNat, any, positions};
 ghost use Rattle.lists.specs.Choosing.{First};
-ghost use Rattle.paper.specs.Descriptor.{cellOf, sizeOf, outside as Outside, segmentOf, segmentsOf};
+ghost use Rattle.paper.specs.Descriptor.{firstNumber, cellOf, sizeOf, outside as Outside, segmentOf, segmentsOf};
 ghost use Rattle.paper.specs.Answers.{badKind, badLower, badExtent, badCells, badCoordinate, badSlant, farOff, slanted as Slanted};
 ghost use Rattle.paper.specs.Words.{L, W};
 ghost use Rattle.table.specs.Cells.{offsetOf, badStride, Based, rowOutside, Held, fault as Fault, foundAt};
@@ -44,6 +44,14 @@ pub fn count(d: Descriptor) -> usize
     ensures { λ r. ⌜ (r ≡ sizeOf d) × (r ≤ 4096) ⌝ }
 {
     whole::index(d.extent)
+}
+
+// The number of position 0; position i has the i-th after it.
+pub fn first_number(d: Descriptor) -> i64
+    ensures { λ r. ⌜ r ≡ firstNumber (d .kind) (d .lower) ⌝ }
+    ensures fits { λ r. ⌜ SFits w64 r ⌝ }
+{
+    d.lower
 }
 
 // ---- refusal 4

@@ -1,0 +1,50 @@
+// The plain scan's listing: the numbers of the segments that meet a window, ascending, into lent cells.
+// It asks for input that no answer refuses; the public call, with the refusals, is `marks::scan`.
+ghost use mathlib.Core.Path.{_≡_};
+ghost use mathlib.Core.Bool.{false, cond};
+ghost use Prim.Native.Nat.{_+_, _<_, _≤_};
+ghost use lib.ListN.{length, set};
+ghost use Rattle.paper.specs.Descriptor.{firstNumber, numberOf, sizeOf};
+ghost use Rattle.paper.specs.Answers.{badLower};
+ghost use Rattle.paper.specs.Results.{over};
+ghost use Rattle.scan.specs.Listing.{Ready, metPositions, metNumbers};
+use paper::Descriptor;
+use paper::Window;
+
+// The number of position i.
+fn number(d: Descriptor, i: usize) -> i32
+    requires { ⌜ (i < 4096) × (badLower (d .kind) (d .lower) .given ≡ false) ⌝ }
+    ensures { λ r. ⌜ r ≡ numberOf (firstNumber (d .kind) (d .lower)) i ⌝ }
+{
+    whole::narrow(table::first_number(d) + whole::count(i))
+}
+
+// z into cell k where it is a hit; the next free cell.
+fn keep(numbers: &mut [i32], k: usize, z: i32, hit: bool) -> usize
+    requires { ⌜ k < length (now numbers) ⌝ }
+    ensures { λ r. ⌜ (r ≡ cond hit (k + 1) k) × (now (numbers .exit) ≡ cond hit (set (now (numbers .entry)) k z) (now (numbers .entry))) ⌝ }
+{
+    if hit {
+        numbers[k] = z;
+        return k + 1;
+    }
+    k
+}
+
+// The numbers of the segments that meet the window into the first cells, which the others follow unchanged; how many.
+pub fn list(table: &[i32], d: Descriptor, w: Window, numbers: &mut [i32]) -> usize
+    requires { ⌜ Ready (now table) d w × (sizeOf d ≤ length (now numbers)) ⌝ }
+    ensures { λ r. ⌜ (r ≡ length (metPositions (now (table .entry)) d w)) × (r ≤ 4096) × (now (numbers .exit) ≡ over (metNumbers (now (table .entry)) d w) (now (numbers .entry))) ⌝ }
+{
+    let n = table::count(d);
+    let mut k = 0;
+    let mut i = 0;
+    while i < n {
+        let s = table::segment(table, d, i);
+        let hit = meeting::meets(s, w);
+        let z = number(d, i);
+        k = keep(numbers, k, z, hit);
+        i += 1;
+    }
+    k
+}
