@@ -248,6 +248,13 @@ module _ {ℓ} {A : Type ℓ} where
       whole : xs ≡ p ++ (m ++ (c ++ (x ++ r)))
       whole = apart a (length v) xs ∙ ap (λ l. p ++ (m ++ l)) after
 
+  -- a write after a part that is replaced
+  pub put-set-after : (t k : ℕ) (x : A) (v s : List A) → t + length v ≤ k → k < length s → set (put t v s) k x ≡ put t v (set s k x)
+  put-set-after t k x v s h l =
+      put-one k x (put t v s) (omega (arith, length-put t v s (omega arith)))
+      ∙ put-swap t k v (x ∷ []) s h (omega arith)
+      ∙ ap (put t v) (sym (put-one k x s l))
+
   pub put-self : (a n : ℕ) (xs : List A) → a + n ≤ length xs → put a (win a n xs) xs ≡ xs
   unfolding put
   put-self a n xs h = ap (λ k. take a xs ++ (win a n xs ++ drop (a + k) xs)) (length-win a n xs h) ∙ sym (apart a n xs)
