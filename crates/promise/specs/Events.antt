@@ -12,6 +12,7 @@ use lib.IntN.{ℤ, pos}
 use lib.Dec.{ltb, lt→ltb, leb, le→leb}
 use Rattle.lists.specs.Plain.{count}
 use Rattle.lists.specs.Tests.{is-true}
+use Rattle.lists.specs.Counting.{count-length}
 use Rattle.paper.specs.Walk.{Kind, Event, visit, due, spoiled, asPosition, asCount, Walked, walked, step, run}
 
 abbrev pub isDue : (ℕ → Bool) → Event → Bool
@@ -71,6 +72,9 @@ dues-count q [] = refl
 dues-count q (visit k i ∷ es) = omega (arith, dues-count q es)
 dues-count q (due p ∷ es) = omega (arith, dues-count q es)
 dues-count q (spoiled ∷ es) = omega (arith, dues-count q es)
+
+pub dues-length : (es : List Event) → length (dues es) ≡ duesOf es
+dues-length es = sym (count-length (dues es)) ∙ dues-count (λ p. true) es
 
 pub run-ends : (n : ℕ) (es : List Event) (ps : List ℕ) (v : ℕ) → Clean es → length ps + duesOf es ≤ n
     → run n (walked ps v) es ≡ walked (ps ++ dues es) (v + visitsOf es)

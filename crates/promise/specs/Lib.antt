@@ -8,3 +8,4 @@ pub mod Levels
 pub mod LowEnds
 pub mod Groups
 pub mod Whole
+pub mod Index

@@ -1,6 +1,7 @@
 -- The whole walk over words whose parts stand at their places (`Placed`): it reads no spoiled word, lists the three groups in order, and its visits are
 -- bounded. No order of the window's edges is assumed: this is the walk for any edges.
--- Use: `walk-ends` says what comes of the walk; `inside-lists`, `across-lists`, `along-lists`, `whole-visits` what that is.
+-- Use: `walk-ends` says what comes of the walk: the positions `listed`, of which `inside-lists`, `across-lists` and `along-lists` speak, in so many visits as
+-- `whole-visits` allows.
 use mathlib.Core.Path.{_≡_, refl, sym, ap, ap₂, _∙_, subst}
 use mathlib.Core.List.{List, [], _∷_, _++_}
 use mathlib.Core.Bool.{Bool, true, false, not, _&&_, _||_}
@@ -24,7 +25,7 @@ use Rattle.paper.specs.Demands.{mostVisits, crosses, lowEndInside}
 use Rattle.paper.specs.declared.Segment.{Segment}
 use Rattle.paper.specs.declared.Window.{Window}
 use Rattle.promise.specs.Places.{At}
-use Rattle.promise.specs.Events.{isDue, isVisit, isSpoiled, Clean, visitsOf, duesOf, dues, dues-append, run-ends}
+use Rattle.promise.specs.Events.{isDue, isVisit, isSpoiled, Clean, visitsOf, duesOf, dues, dues-append, dues-length, run-ends}
 use Rattle.promise.specs.Block as B
 use Rattle.promise.specs.LowEnds.{lowEvents, low-clean, low-lists, low-visits, low-then}
 use Rattle.promise.specs.Groups.{Rises, isAcross, isAlong, inGroup, one-group}
@@ -128,6 +129,13 @@ module _ (rs : List Segment) (w : Window) (rise : (p : ℕ) → Rises (at rs p))
   abbrev pub whole : List Event
   whole = insideEvents ++ (acrossEvents ++ alongEvents)
 
+  -- the answer: the groups in order
+  abbrev pub listed : List ℕ
+  listed = dues insideEvents ++ (dues acrossEvents ++ dues alongEvents)
+
+  listed-is : dues whole ≡ listed
+  listed-is = dues-append insideEvents (acrossEvents ++ alongEvents) ∙ ap (λ (l : List ℕ). dues insideEvents ++ l) (dues-append acrossEvents alongEvents)
+
   tally : (q : Event → Bool) → count q whole ≡ count q insideEvents + (count q acrossEvents + count q alongEvents)
   tally q = omega (arith, count-append q insideEvents (acrossEvents ++ alongEvents), count-append q acrossEvents alongEvents)
 
@@ -170,12 +178,14 @@ module _ (rs : List Segment) (w : Window) (rise : (p : ℕ) → Rises (at rs p))
           positions-length n,
         )
 
-    pub whole-visits : visitsOf whole ≤ mostVisits n (duesOf whole)
+    pub whole-visits : visitsOf whole ≤ mostVisits n (length listed)
     whole-visits =
         omega (
           arith,
           tally isVisit,
           tally (isDue (λ x. true)),
+          ap (λ (l : List ℕ). length l) listed-is,
+          dues-length whole,
           low-visits rs w some,
           digits-mono (n - 1) n (omega arith),
           part-visits horizontal tidyAcross flatAt (w .a) (w .c) (w .d) (blocksAt n),
@@ -195,12 +205,12 @@ module _ (rs : List Segment) (w : Window) (rise : (p : ℕ) → Rises (at rs p))
           ∙ low-then rs w some ws (placed .reads) (placed .levels) _
           ∙ ap₂ (λ (u v : List Event). insideEvents ++ (u ++ v)) across along
 
-      pub walk-ends : walkOf ws w ≡ walked (dues insideEvents ++ (dues acrossEvents ++ dues alongEvents)) (visitsOf whole)
+      pub walk-ends : walkOf ws w ≡ walked listed (visitsOf whole)
       unfolding walkOf
       walk-ends =
           ap₂ (λ (k : ℕ) (es : List Event). run k (walked [] 0) es) (placed .size) walk-is
           ∙ run-ends n whole [] 0 whole-clean (omega (arith, at-most))
-          ∙ ap₂ walked (dues-append insideEvents (acrossEvents ++ alongEvents) ∙ ap (λ (l : List ℕ). dues insideEvents ++ l) (dues-append acrossEvents alongEvents)) (zero-add (visitsOf whole))
+          ∙ ap₂ walked listed-is (zero-add (visitsOf whole))
 
 -- with n = 0 there are no visits
 pub none-ends : (ws : List ℤ) (w : Window) → sizeIn ws ≡ 0 → walkOf ws w ≡ walked [] 0
