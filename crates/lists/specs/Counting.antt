@@ -136,3 +136,10 @@ pub distinct : (l : List ℕ) → ((p : ℕ) → count (eqb p) l ≤ 1) → Dist
 unfolding count
 distinct [] h = Sorted.none
 distinct (x ∷ l) h = Sorted.next (none-counted (eqb x) l (omega (arith, h x, gate-one (eqb x x) (eqb-refl x)))) (distinct l (λ p. omega (arith, h p)))
+
+-- what stands in a list is counted there
+pub each-counted : (l : List ℕ) → All (λ x. 1 ≤ count (eqb x) l) l
+unfolding count
+each-counted [] = All.none
+each-counted (x ∷ l) =
+    All.also {x = x} (omega (arith, gate-one (eqb x x) (eqb-refl x))) (all-map (λ y h. omega arith) (each-counted l))

@@ -6,19 +6,20 @@ use mathlib.Core.List.{List, [], _∷_, _++_, map}
 use mathlib.Core.Bool.{Bool, true, false, not, _&&_, _||_}
 use Prim.Native.Nat.{ℕ, zero, suc, _+_, _-_, _*_, _≤_, _<_}
 use native.Mathlib.Omega.{arith}
-use lib.ListN.{length, length-map}
+use lib.ListN.{length, length-map, length-append}
 use lib.IntN.{ℤ, pos}
 use lib.Signed.{leZ, ltZ}
 use lib.Dec.{T, eqb, ltb, ltb→lt, lt→ltb, nltb→le}
 use Rattle.lists.specs.Plain.{toNat, positions, filter, joined, count}
 use Rattle.lists.specs.Tests.{gate, gate-yes, gate-zero, gate-closed, by-test, holds, fails, or-false}
 use Rattle.lists.specs.Orders.{ltZ-up}
-use Rattle.lists.specs.Counting.{count-nil, count-append, count-length, filter-count}
+use Rattle.lists.specs.Counting.{count-nil, count-append, count-parts, filter-count, filter-length}
+use Rattle.lists.specs.Positions.{positions-length}
 use Rattle.lists.specs.Choosing.{count-chosen}
 use Rattle.paper.specs.Descriptor.{at}
 use Rattle.paper.specs.Meeting.{Meets}
 use Rattle.paper.specs.Answers.{positionsOf, answerAt, slanted, badSlant, badWindow}
-use Rattle.paper.specs.Words.{D, recordsAt, levelsAt, blocksAt, lowFirst, horizontals, verticals, recordOf, levelsWords, horizontal, vertical, blockWords, headerWords, indexWords}
+use Rattle.paper.specs.Words.{D, W, recordsAt, levelsAt, blocksAt, lowFirst, isHorizontal, horizontals, verticals, recordOf, levelsWords, horizontal, vertical, blockWords, headerWords, indexWords}
 use Rattle.paper.specs.Walk.{Event, word, recordAt, sizeIn, Walked, walked, walkOf}
 use Rattle.paper.specs.Demands.{ListsOnce, Straight, IndexOf, mostVisits, lowEndInside, Group, InGroups}
 use Rattle.paper.specs.declared.Segment.{Segment}
@@ -90,6 +91,18 @@ unfolding joined
 records-length [] = refl
 records-length (s ∷ rs) = omega (arith, records-length rs)
 
+-- each is horizontal or not
+pub sides-length : (rs : List Segment) → length (horizontals rs) + length (verticals rs) ≡ length rs
+sides-length rs =
+    let flat : ℕ → Bool = λ p. isHorizontal (at rs p) in
+    omega (
+      arith,
+      filter-length flat (positions (length rs)),
+      filter-length (λ p. not (flat p)) (positions (length rs)),
+      count-parts flat (positions (length rs)),
+      positions-length (length rs),
+    )
+
 module _ (first : ℤ) (segments : List Segment) (ws : List ℤ) (index : IndexOf first segments ws) where
   abbrev rs : List Segment
   rs = map lowFirst segments
@@ -116,9 +129,18 @@ module _ (first : ℤ) (segments : List Segment) (ws : List ℤ) (index : IndexO
   unfolding indexWords
   all-at = subst (λ (l : List ℤ). At l 0 (indexWords first segments)) (sym (index .words)) (at-self (indexWords first segments) (index .rest))
 
-  -- word 1 is the number of position 0
+  -- the header
+  pub size-word : word ws 0 ≡ pos n
+  size-word = all-at .0
+
   pub first-word : word ws 1 ≡ first
   first-word = all-at .1 .0
+
+  pub across-word : word ws 2 ≡ pos (length hs)
+  across-word = all-at .1 .1 .0
+
+  pub along-word : word ws 3 ≡ pos (length (verticals rs))
+  along-word = all-at .1 .1 .1 .0
 
   records-at : At ws recordsAt records × At ws (recordsAt + length records) (levelsWords rs ++ (acrossWords ++ alongWords))
   records-at = at-append ws 4 records (levelsWords rs ++ (acrossWords ++ alongWords)) (all-at .1 .1 .1 .1)
@@ -133,14 +155,39 @@ module _ (first : ℤ) (segments : List Segment) (ws : List ℤ) (index : IndexO
 
   pub placed : Placed rs ws
   placed = record {
-    size = ap toNat (all-at .0);
-    acrosses = ap toNat (all-at .1 .1 .0);
-    alongs = ap toNat (all-at .1 .1 .1 .0);
+    size = ap toNat size-word;
+    acrosses = ap toNat across-word;
+    alongs = ap toNat along-word;
     reads = λ p h. records-read ws rs recordsAt p h (records-at .0);
     levels = levels-at .0;
     acrossBlock = blocks-at .0;
     alongBlock = subst (λ (k : ℕ). At ws (blocksAt n + k) alongWords) (block-length rs horizontal (λ p. rise p .across) (length hs) hs (omega arith)) (blocks-at .1);
   }
+
+-- the words of an index are W(n)
+pub index-length : (first : ℤ) (segments : List Segment) → Straight segments → length (indexWords first segments) ≡ W (length segments)
+unfolding indexWords
+index-length first segments s =
+    let rs = map lowFirst segments in
+    let n = length rs in
+    let hs = horizontals rs in
+    let vs = verticals rs in
+    let records = joined (map recordOf rs) in
+    let across = blockWords rs horizontal hs in
+    let along = blockWords rs vertical vs in
+    let size : n ≡ length segments = length-map segments lowFirst in
+    subst (λ (k : ℕ). suc (suc (suc (suc (length (records ++ (levelsWords rs ++ (across ++ along))))))) ≡ W k) size
+    (omega (
+      arith,
+      length-append records (levelsWords rs ++ (across ++ along)),
+      length-append (levelsWords rs) (across ++ along),
+      length-append across along,
+      records-length rs,
+      levels-length rs,
+      block-length rs horizontal (λ p. rises segments s p .across) (length hs) hs (omega arith),
+      block-length rs vertical (λ p. rises segments s p .along) (length vs) vs (omega arith),
+      sides-length rs,
+    ))
 
 -- ---- the walk over an index, for any edges: it ends, it lists the groups in order, and its visits are bounded
 pub record Walks (segments : List Segment) (w : Window) (r : Walked) : Type 0 where

@@ -1,3 +1,4 @@
+pub mod Demands
 pub mod Places
 pub mod Events
 pub mod Queue
@@ -9,3 +10,4 @@ pub mod LowEnds
 pub mod Groups
 pub mod Whole
 pub mod Index
+pub mod Calls

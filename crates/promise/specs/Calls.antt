@@ -1,0 +1,117 @@
+-- From positions to what a caller reads: the numbers in the cells (`once-numbers`), and the answer of a query over an index (`query-done`).
+-- Use: cite Demands. No definition of the words or the walk has to be opened for it.
+use mathlib.Core.Path.{_≡_, refl, sym, ap, ap₂, _∙_, subst}
+use mathlib.Core.List.{List, [], _∷_, _++_, map}
+use mathlib.Core.Bool.{Bool, true, false, not, _&&_, _||_, cond}
+use Prim.Native.Nat.{ℕ, zero, suc, _+_, _≤_, _<_}
+use native.Mathlib.Omega.{arith}
+use lib.ListN.{length, take, drop, length-map, length-append}
+use lib.Seq.{take-at}
+use lib.IntN.{ℤ, pos, _+ℤ_}
+use lib.Signed.{leZ, ltZ}
+use lib.Dec.{T, not-T, eqb, eqb→eq, eqb-refl, ltb, leb, le→leb}
+use borrow.Author.Tests.{le-ltb}
+use Rattle.whole.specs.Whole.{of, #, _⊕_, whole}
+use Rattle.lists.specs.Plain.{same, toNat, count}
+use Rattle.lists.specs.Tests.{agree, is-true}
+use Rattle.lists.specs.Orders.{same-equal, same-self}
+use Rattle.lists.specs.Every.{All, all-map}
+use Rattle.lists.specs.Counting.{count-map, count-none, each-counted}
+use Rattle.paper.specs.Descriptor.{at, numberOf}
+use Rattle.paper.specs.Limits.{mostSegments, extentFits, lowerFits}
+use Rattle.paper.specs.Answers.{Answer, judged, refused, done, badWindow}
+use Rattle.paper.specs.Words.{W, lowFirst, horizontals, verticals, indexWords}
+use Rattle.paper.specs.Walk.{word, extentIn, sizeIn, Walked, walked, walkOf}
+use Rattle.paper.specs.Orders.{badIndex, isStopped, queryOrder}
+use Rattle.paper.specs.Results.{over, afterRefusal, numbersOf, listing, queried}
+use Rattle.paper.specs.Demands.{ListsOnce, ListsNumbers, listedBy, IndexOf}
+use Rattle.paper.specs.declared.Segment.{Segment}
+use Rattle.paper.specs.declared.Window.{Window}
+use Rattle.promise.specs.Index.{placed, size-word, first-word, across-word, along-word, sides-length, index-length}
+
+-- ---- numbers and positions
+
+-- numbers are alike where their positions are
+number-same : (first : ℤ) (p x : ℕ) → same (numberOf first p) (numberOf first x) ≡ eqb p x
+number-same first p x =
+    agree (same (numberOf first p) (numberOf first x)) (eqb p x)
+    (λ t. subst (λ (k : ℕ). T (eqb p k)) (back (same-equal (numberOf first p) (numberOf first x) t)) (eqb-refl p))
+    (λ t. subst (λ (k : ℕ). T (same (numberOf first p) (numberOf first k))) (eqb→eq p x t) (same-self (numberOf first p)))
+  where
+    back : (first +ℤ pos p) ≡ (first +ℤ pos x) → p ≡ x
+    back e = omega (whole, of (# first ⊕ # (pos p)), of (# first ⊕ # (pos x)))
+
+pub once-numbers : (first : ℤ) (segments : List Segment) (w : Window) (ps : List ℕ) → ListsOnce segments w ps → ListsNumbers first segments w (numbersOf first ps)
+once-numbers first segments w ps h = record {
+  once = λ p l m.
+      count-map (numberOf first) (same (numberOf first p)) ps
+      ∙ ap (λ (q : ℕ → Bool). count q ps) (λ i x. number-same first p x i)
+      ∙ h .once p l m;
+  never = λ z f.
+      count-map (numberOf first) (same z) ps
+      ∙ count-none (λ x. same z (numberOf first x)) (all-map (λ x k.
+      not-T (same z (numberOf first x)) (λ t. listed x k (h .never x (λ l m. f x l m (same-equal z (numberOf first x) t))))) (each-counted ps));
+}
+  where
+    listed : (x : ℕ) → 1 ≤ count (eqb x) ps → count (eqb x) ps ≡ 0 → ⊥
+    listed x k e = omega arith
+
+-- the numbers that a call lists stand in its first cells
+pub listed-numbers : (ns cells : List ℤ) (k v : ℕ) → length ns ≡ k → listedBy (done k v, over ns cells) ≡ ns
+listed-numbers ns cells k v e = take-at ns (drop (length ns) cells) k e
+
+-- ---- a query over an index is not refused
+
+not-judged : {A : Type 0} (xs : List Answer) (refuse : Answer → A) (answer : A) → All (λ x. x .given ≡ false) xs → judged xs refuse answer ≡ answer
+not-judged [] refuse answer All.none = refl
+not-judged (x ∷ xs) refuse answer (All.also e h) = rw e (not-judged xs refuse answer h)
+
+all-sound : (p q r s t u v : Bool) → p ≡ false → q ≡ true → r ≡ true → s ≡ false → t ≡ false → u ≡ true → v ≡ false → (p || not q || not r || s || t || not u || v) ≡ false
+all-sound p q r s t u v e1 e2 e3 e4 e5 e6 e7 = rw (e1, e2, e3, e4, e5, e6, e7) refl
+
+module _ (first : ℤ) (segments : List Segment) (ws : List ℤ) (index : IndexOf first segments ws) (fits : lowerFits first ≡ true) where
+  abbrev n : ℕ
+  n = length segments
+
+  size-is : sizeIn ws ≡ n
+  size-is = placed first segments ws index .size ∙ length-map segments lowFirst
+
+  words-enough : W n ≤ length ws
+  words-enough =
+      omega (
+        arith,
+        ap (λ (l : List ℤ). length l) (index .words),
+        length-append (indexWords first segments) (index .rest),
+        index-length first segments (index .accepted),
+      )
+
+  extent-fits : extentFits (extentIn ws) ≡ true
+  extent-fits =
+      subst (λ (z : ℤ). extentFits z ≡ true) (sym (size-word first segments ws index ∙ ap (λ (k : ℕ). pos k) (length-map segments lowFirst)))
+      (rw (is-true (leb 0 n) (le→leb 0 n (omega arith)), is-true (leb n mostSegments) (le→leb n mostSegments (index .accepted .size))) refl)
+
+  counts-add : same (word ws 2 +ℤ word ws 3) (extentIn ws) ≡ true
+  counts-add =
+      let rs = map lowFirst segments in
+      rw (across-word first segments ws index, along-word first segments ws index, size-word first segments ws index)
+      (is-true _ (subst (λ (k : ℕ). T (same (pos (length (horizontals rs) + length (verticals rs))) (pos k))) (sides-length rs) (same-self (pos (length (horizontals rs) + length (verticals rs))))))
+
+  index-sound : badIndex ws .given ≡ false
+  index-sound =
+      all-sound (ltb (length ws) 4) (extentFits (extentIn ws)) (lowerFits (word ws 1)) (ltZ (word ws 2) (pos 0)) (ltZ (word ws 3) (pos 0)) (same (word ws 2 +ℤ word ws 3) (extentIn ws))
+      (ltb (length ws) (W (sizeIn ws)))
+      (le-ltb (length ws) 4 (omega (arith, words-enough)))
+      extent-fits
+      (ap lowerFits (first-word first segments ws index) ∙ fits)
+      (rw (across-word first segments ws index) (le-ltb (length (horizontals (map lowFirst segments))) 0 (omega arith)))
+      (rw (along-word first segments ws index) (le-ltb (length (verticals (map lowFirst segments))) 0 (omega arith)))
+      counts-add
+      (rw size-is (le-ltb (length ws) (W n) words-enough))
+
+  module _ (w : Window) (numbers : List ℤ) (good : badWindow w .given ≡ false) (room : n ≤ length numbers) where
+    pub query-done : (ps : List ℕ) (v : ℕ) → walkOf ws w ≡ walked ps v → queried ws w numbers ≡ (done (length ps) v, over (numbersOf first ps) numbers)
+    unfolding queried listing
+    query-done ps v e =
+        not-judged (queryOrder ws w numbers) (λ x. (refused x, afterRefusal x (sizeIn ws) numbers)) (listing (word ws 1) numbers (walkOf ws w))
+        (All.also index-sound (All.also good (All.also (rw size-is (le-ltb (length numbers) n room)) (All.also (ap isStopped e) All.none))))
+        ∙ ap₂ (λ (z : ℤ) (r : Walked). listing z numbers r) (first-word first segments ws index) e

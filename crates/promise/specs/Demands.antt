@@ -1,0 +1,47 @@
+-- The promises, proved: what `paper`'s Demands states holds of every index, whatever its segments, crossing or not, equal or not.
+-- Demand 2 is in `once` and `groups`, demand 3 in `few`; `ends` says that the walk is never stopped. `low-ends` (LowEnds) has the first group by itself.
+use mathlib.Core.Path.{_≡_, refl, sym, ap, _∙_, subst}
+use mathlib.Core.Bool.{true, false}
+use mathlib.Core.List.{List}
+use Prim.Native.Nat.{ℕ, _≤_}
+use lib.IntN.{ℤ, pos}
+use lib.ListN.{length, length-map}
+use lib.Dec.{leb, le→leb}
+use Rattle.paper.specs.Limits.{lowerFits}
+use Rattle.paper.specs.Descriptor.{numberOf}
+use Rattle.paper.specs.Answers.{done, badWindow}
+use Rattle.paper.specs.Walk.{walkOf}
+use Rattle.paper.specs.Results.{Result, over, numbersOf, queried}
+use Rattle.paper.specs.Demands.{IndexOf, IndexDemands, Asked, ListsNumbers, listedBy, mostVisits, QueryPromise}
+use Rattle.paper.specs.declared.Segment.{Segment}
+use Rattle.paper.specs.declared.Window.{Window}
+use Rattle.promise.specs.Index.{index-walks, groups-once}
+use Rattle.promise.specs.Calls.{once-numbers, listed-numbers, query-done}
+
+-- demands 2 and 3 on the words of an index
+pub index-demands : IndexDemands
+index-demands first segments w ws index good =
+    let r = index-walks first segments w ws index in
+    record {
+      listed = r .listed;
+      visits = r .visits;
+      ends = r .ends;
+      once = groups-once segments w (index .accepted) good (r .listed) (r .groups);
+      groups = r .groups;
+      few = r .few;
+    }
+
+-- the same as a caller of the query sees it: in the reply and in the number cells
+pub query-promise : (first : ℤ) (segments : List Segment) (w : Window) (ws numbers : List ℤ)
+    → IndexOf first segments ws → lowerFits first ≡ true → badWindow w .given ≡ false → length segments ≤ length numbers
+    → QueryPromise first segments w (queried ws w numbers)
+query-promise first segments w ws numbers index fits good room =
+    let r = index-demands first segments w ws index good in
+    let ns = numbersOf first (r .listed) in
+    let size = length-map (r .listed) (numberOf first) in
+    subst (QueryPromise first segments w) (sym (query-done first segments ws index fits w numbers good room (r .listed) (r .visits) (r .ends)))
+    (record {
+      isDone = refl;
+      lists = subst (ListsNumbers first segments w) (sym (listed-numbers ns numbers (length (r .listed)) (r .visits) size)) (once-numbers first segments w (r .listed) (r .once));
+      few = record { le = le→leb (r .visits) (mostVisits (length segments) (length (r .listed))) (r .few) };
+    })
