@@ -1,4 +1,5 @@
--- From positions to what a caller reads: the numbers in the cells (`once-numbers`), and the answer of a query over an index (`query-done`).
+-- From positions to what a caller reads: the numbers in the cells (`once-numbers`), what a builder that is done has written (`build-done`), and the answer
+-- of a query over an index (`query-done`).
 -- Use: cite Demands. No definition of the words or the walk has to be opened for it.
 use mathlib.Core.Path.{_≡_, refl, sym, ap, ap₂, _∙_, subst}
 use mathlib.Core.List.{List, [], _∷_, _++_, map}
@@ -7,24 +8,26 @@ use Prim.Native.Nat.{ℕ, zero, suc, _+_, _≤_, _<_}
 use native.Mathlib.Omega.{arith}
 use lib.ListN.{length, take, drop, length-map, length-append}
 use lib.Seq.{take-at}
-use lib.IntN.{ℤ, pos, _+ℤ_}
+use lib.IntN.{ℤ, pos, negsuc, _+ℤ_}
 use lib.Signed.{leZ, ltZ}
-use lib.Dec.{T, not-T, eqb, eqb→eq, eqb-refl, ltb, leb, le→leb}
+use lib.Dec.{T, not-T, eqb, eqb→eq, eqb-refl, ltb, leb, le→leb, leb→le}
 use borrow.Author.Tests.{le-ltb}
 use Rattle.whole.specs.Whole.{of, #, _⊕_, whole}
-use Rattle.lists.specs.Plain.{same, toNat, count}
-use Rattle.lists.specs.Tests.{agree, is-true}
+use Rattle.lists.specs.Plain.{same, toNat, count, positions}
+use Rattle.lists.specs.Tests.{agree, is-true, snd-of, holds, clash, or-false}
 use Rattle.lists.specs.Orders.{same-equal, same-self}
 use Rattle.lists.specs.Every.{All, all-map}
 use Rattle.lists.specs.Counting.{count-map, count-none, each-counted}
-use Rattle.paper.specs.Descriptor.{at, numberOf}
+use Rattle.lists.specs.Positions.{positions-length}
+use Rattle.paper.specs.Descriptor.{sizeOf, firstNumber, numberOf, segmentOf, segmentsOf}
 use Rattle.paper.specs.Limits.{mostSegments, extentFits, lowerFits}
-use Rattle.paper.specs.Answers.{Answer, judged, refused, done, badWindow}
+use Rattle.paper.specs.Answers.{Answer, answerAt, positionsOf, farOff, slanted, badKind, badLower, badExtent, badCells, badBuffer, badCoordinate, badSlant, badWindow, judged, refused, done}
 use Rattle.paper.specs.Words.{W, lowFirst, horizontals, verticals, indexWords}
 use Rattle.paper.specs.Walk.{word, extentIn, sizeIn, Walked, walked, walkOf}
-use Rattle.paper.specs.Orders.{badIndex, isStopped, queryOrder}
-use Rattle.paper.specs.Results.{over, afterRefusal, numbersOf, listing, queried}
-use Rattle.paper.specs.Demands.{ListsOnce, ListsNumbers, listedBy, IndexOf}
+use Rattle.paper.specs.Orders.{badIndex, isStopped, builderOrder, queryOrder}
+use Rattle.paper.specs.Results.{Result, over, afterRefusal, numbersOf, built, listing, queried}
+use Rattle.paper.specs.Demands.{ListsOnce, ListsNumbers, listedBy, Straight, IndexOf}
+use Rattle.paper.specs.declared.Descriptor.{Descriptor}
 use Rattle.paper.specs.declared.Segment.{Segment}
 use Rattle.paper.specs.declared.Window.{Window}
 use Rattle.promise.specs.Index.{placed, size-word, first-word, across-word, along-word, sides-length, index-length}
@@ -60,11 +63,87 @@ once-numbers first segments w ps h = record {
 pub listed-numbers : (ns cells : List ℤ) (k v : ℕ) → length ns ≡ k → listedBy (done k v, over ns cells) ≡ ns
 listed-numbers ns cells k v e = take-at ns (drop (length ns) cells) k e
 
--- ---- a query over an index is not refused
+-- ---- an order's outcome
 
-not-judged : {A : Type 0} (xs : List Answer) (refuse : Answer → A) (answer : A) → All (λ x. x .given ≡ false) xs → judged xs refuse answer ≡ answer
+-- where no answer is given the call is done
+pub not-judged : {A : Type 0} (xs : List Answer) (refuse : Answer → A) (answer : A) → All (λ x. x .given ≡ false) xs → judged xs refuse answer ≡ answer
 not-judged [] refuse answer All.none = refl
 not-judged (x ∷ xs) refuse answer (All.also e h) = rw e (not-judged xs refuse answer h)
+
+-- a reply with number 0 says that no answer was given
+pub none-refused : {xs : List Answer} (cells : List ℤ) (answer : Result) → All (λ x. 1 ≤ x .number) xs
+    → judged xs (λ x. (refused x, cells)) answer .0 .number ≡ pos 0 → All (λ x. x .given ≡ false) xs
+none-refused cells answer All.none e = All.none
+none-refused cells answer (All.also {x = x} {l = xs} h k) e = go (x .given) refl (none-refused cells answer k) e
+  where
+    zero : (n : ℕ) → 1 ≤ n → pos n ≡ pos 0 → ⊥
+    zero n h e = omega whole
+
+    go : (b : Bool) → x .given ≡ b → (judged xs (λ x. (refused x, cells)) answer .0 .number ≡ pos 0 → All (λ x. x .given ≡ false) xs)
+        → cond b (refused x, cells) (judged xs (λ x. (refused x, cells)) answer) .0 .number ≡ pos 0 → All (λ x. x .given ≡ false) (x ∷ xs)
+    go true g f e = absurd (zero (x .number) h e)
+    go false g f e = All.also g (f e)
+
+-- ---- a builder that is done has written an index
+
+number-at : (number : ℕ) (ps : List ℕ) → 1 ≤ number → 1 ≤ answerAt number ps .number
+number-at number [] h = h
+number-at number (p ∷ ps) h = h
+
+-- n within its limits, as the size of the table
+size-fits : (z : ℤ) → extentFits z ≡ true → toNat z ≤ mostSegments
+size-fits (pos n) e = leb→le n mostSegments (snd-of (leb 0 n) (leb n mostSegments) (holds e))
+size-fits (negsuc n) e = omega arith
+
+module _ (table : List ℤ) (d : Descriptor) (index : List ℤ) where
+  abbrev segments : List Segment
+  segments = segmentsOf d table
+
+  abbrev number : ℤ
+  number = firstNumber (d .kind) (d .lower)
+
+  abbrev answer : Result
+  answer = (done (W (sizeOf d)) 0, over (indexWords number segments) index)
+
+  numbered : All (λ x. 1 ≤ x .number) (builderOrder table d index)
+  numbered =
+      All.also {x = badKind (d .kind)} (omega arith)
+      (All.also {x = badLower (d .kind) (d .lower)} (omega arith)
+      (All.also {x = badExtent (d .extent)} (omega arith)
+      (All.also {x = badCells (pos (length table)) d} (omega arith)
+      (All.also {x = badBuffer (W (sizeOf d)) (length index)} (omega arith)
+      (All.also {x = badCoordinate segments} (number-at 5 (positionsOf farOff segments) (omega arith))
+      (All.also {x = badSlant segments} (number-at 6 (positionsOf slanted segments) (omega arith)) All.none))))))
+
+  -- what the builder has seen where it gives none of its answers
+  pub record Accepts : Type 0 where
+    pub lower : lowerFits number ≡ true
+    pub straight : Straight segments
+
+  accepts : All (λ x. x .given ≡ false) (builderOrder table d index) → Accepts
+  unfolding segmentsOf
+  accepts (All.also kind (All.also lower (All.also extent (All.also cells (All.also buffer (All.also far (All.also slant All.none))))))) = record {
+    lower = no-not (lowerFits (d .lower)) (or-false (not (lowerFits (d .lower))) _ lower .0);
+    straight = record {
+      size = rw (length-map (positions (sizeOf d)) (segmentOf d table), positions-length (sizeOf d)) (size-fits (d .extent) (no-not (extentFits (d .extent)) extent));
+      coordinates = far;
+      straight = slant;
+    };
+  }
+    where
+      no-not : (b : Bool) → not b ≡ false → b ≡ true
+      no-not true e = refl
+      no-not false e = clash e
+
+  pub build-accepts : built table d index .0 .number ≡ pos 0 → Accepts
+  unfolding built
+  build-accepts e = accepts (none-refused index answer numbered e)
+
+  pub build-done : built table d index .0 .number ≡ pos 0 → built table d index ≡ answer
+  unfolding built
+  build-done e = not-judged (builderOrder table d index) (λ x. (refused x, index)) answer (none-refused index answer numbered e)
+
+-- ---- a query over an index is not refused
 
 all-sound : (p q r s t u v : Bool) → p ≡ false → q ≡ true → r ≡ true → s ≡ false → t ≡ false → u ≡ true → v ≡ false → (p || not q || not r || s || t || not u || v) ≡ false
 all-sound p q r s t u v e1 e2 e3 e4 e5 e6 e7 = rw (e1, e2, e3, e4, e5, e6, e7) refl

@@ -5,18 +5,19 @@ use mathlib.Core.Bool.{true, false}
 use mathlib.Core.List.{List}
 use Prim.Native.Nat.{ℕ, _≤_}
 use lib.IntN.{ℤ, pos}
-use lib.ListN.{length, length-map}
-use lib.Dec.{leb, le→leb}
+use lib.ListN.{length, drop, length-map}
+use lib.Dec.{le→leb}
 use Rattle.paper.specs.Limits.{lowerFits}
-use Rattle.paper.specs.Descriptor.{numberOf}
-use Rattle.paper.specs.Answers.{done, badWindow}
-use Rattle.paper.specs.Walk.{walkOf}
-use Rattle.paper.specs.Results.{Result, over, numbersOf, queried}
-use Rattle.paper.specs.Demands.{IndexOf, IndexDemands, Asked, ListsNumbers, listedBy, mostVisits, QueryPromise}
+use Rattle.paper.specs.Descriptor.{firstNumber, numberOf, segmentsOf}
+use Rattle.paper.specs.Answers.{badWindow}
+use Rattle.paper.specs.Words.{indexWords}
+use Rattle.paper.specs.Results.{Result, numbersOf, built, queried}
+use Rattle.paper.specs.Demands.{IndexOf, IndexDemands, ListsNumbers, mostVisits, QueryPromise}
+use Rattle.paper.specs.declared.Descriptor.{Descriptor}
 use Rattle.paper.specs.declared.Segment.{Segment}
 use Rattle.paper.specs.declared.Window.{Window}
 use Rattle.promise.specs.Index.{index-walks, groups-once}
-use Rattle.promise.specs.Calls.{once-numbers, listed-numbers, query-done}
+use Rattle.promise.specs.Calls.{once-numbers, listed-numbers, build-accepts, build-done, query-done}
 
 -- demands 2 and 3 on the words of an index
 pub index-demands : IndexDemands
@@ -45,3 +46,11 @@ query-promise first segments w ws numbers index fits good room =
       lists = subst (ListsNumbers first segments w) (sym (listed-numbers ns numbers (length (r .listed)) (r .visits) size)) (once-numbers first segments w (r .listed) (r .once));
       few = record { le = le→leb (r .visits) (mostVisits (length segments) (length (r .listed))) (r .few) };
     })
+
+-- a builder that is done has written an index of the table, in whatever buffer; its position 0 has a number within the limits
+pub build-promise : (table : List ℤ) (d : Descriptor) (index : List ℤ) → built table d index .0 .number ≡ pos 0
+    → IndexOf (firstNumber (d .kind) (d .lower)) (segmentsOf d table) (built table d index .1) × (lowerFits (firstNumber (d .kind) (d .lower)) ≡ true)
+build-promise table d index e =
+    let a = build-accepts table d index e in
+    let words = indexWords (firstNumber (d .kind) (d .lower)) (segmentsOf d table) in
+    (record { accepted = a .straight; rest = drop (length words) index; words = ap (λ (r : Result). r .1) (build-done table d index e) }, a .lower)
