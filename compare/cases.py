@@ -510,23 +510,28 @@ def fault_index_spoiled(r, call):
     put_word(call, place + r.choice([0, n - 1]), r.choice([-1, n, *INT32]))
 
 
+# Each list in the order in which the document judges.
 TABLE_FAULTS = [
-    fault_coordinate, fault_slant, fault_kind, fault_lower, fault_lower_of_other, fault_base, fault_table, fault_stride,
-    fault_extent,
+    fault_kind, fault_lower, fault_lower_of_other, fault_extent, fault_stride, fault_base, fault_table,
 ]  # fmt: skip
-SCAN_FAULTS = TABLE_FAULTS + [fault_window, fault_numbers]
-BUILD_FAULTS = TABLE_FAULTS + [fault_index_room]
+SCAN_FAULTS = TABLE_FAULTS + [fault_window, fault_numbers, fault_coordinate]
+BUILD_FAULTS = TABLE_FAULTS + [fault_index_room, fault_coordinate, fault_slant]
 QUERY_FAULTS = [
-    fault_index_spoiled, fault_index_counts, fault_index_lower, fault_index_extent, fault_index_cut, fault_index_head,
-    fault_window, fault_numbers,
+    fault_index_head, fault_index_extent, fault_index_lower, fault_index_counts, fault_index_cut, fault_window,
+    fault_numbers, fault_index_spoiled,
 ]  # fmt: skip
 
 
-def pair_of_faults(r, faults, index):
-    """Every pair in turn, a fault with itself too (that is one alone); sometimes a third. What a fault needs stays before it."""
-    first, second = divmod(index % len(faults) ** 2, len(faults))
-    chosen = {first, second} | ({r.randrange(len(faults))} if chance(r, 20) else set())
-    return [faults[place] for place in sorted(chosen)]
+def some_faults(r, faults, turn):
+    """Every pair in turn, a fault with itself too (that is one alone), or any from a late part of the order."""
+    if turn % 2:
+        late = faults[r.randrange(len(faults)) :]
+        chosen = {r.choice(late) for _ in range(r.randint(1, 3))}
+    else:
+        first, second = divmod(turn // 2 % len(faults) ** 2, len(faults))
+        chosen = {faults[first], faults[second]}
+    # The last to be judged is made first: it needs a call that is good so far.
+    return [fault for fault in reversed(faults) if fault in chosen]
 
 
 def refusals_case(r, index):
@@ -539,7 +544,7 @@ def refusals_case(r, index):
         call, faults = build_call(r, a_table(r, n)), BUILD_FAULTS
     else:
         call, faults = scan_call(r, a_table(r, n, any_segments)), SCAN_FAULTS
-    for fault in pair_of_faults(r, faults, turn):
+    for fault in some_faults(r, faults, turn):
         fault(r, call.arguments)
     return [call]
 
