@@ -110,10 +110,13 @@ def bad_extent(n):
     return refused_if(not 0 <= n <= SEGMENTS_MOST)
 
 
+def bad_strides(segment_stride, coordinate_stride):
+    return not (within(segment_stride, STRIDE_MOST) and within(coordinate_stride, STRIDE_MOST))
+
+
 def bad_cells(length, base, n, segment_stride, coordinate_stride):
-    if not (within(segment_stride, STRIDE_MOST) and within(coordinate_stride, STRIDE_MOST)):
-        return UNNAMED
-    return refused_if(first_outside(length, base, n, segment_stride, coordinate_stride) is not None)
+    outside = lambda: first_outside(length, base, n, segment_stride, coordinate_stride) is not None
+    return refused_if(bad_strides(segment_stride, coordinate_stride) or outside())
 
 
 def first_where(fault, segments):

@@ -3,8 +3,8 @@ document.py are held against these, so that a slip shared by the two would still
 
 from array import array
 
-from cases import Call
 from document import Reply
+from draw import Call
 
 FULL = 536_870_912
 
@@ -47,7 +47,6 @@ def program(text, output):
 TWELVE = [4, 0, 4, 5, 0, 2, 6, 2, 9, 9, 9, 9]
 AROUND = dict(a=-FULL, b=FULL, c=-FULL, d=FULL)
 ONE_SEGMENT = [1, 1, 1, 0, 0, 2, 6, 2, 0, 0, 0, 1, 0, 0, 0, 0, 0, 0]
-POINTS_4096 = [0] * 4
 HEADER_OF_NONE = [0, -5, 0, 0]
 
 EXAMPLES = [

@@ -10,8 +10,8 @@ import time
 from array import array
 
 import document
-from cases import descriptor_of, segments_in, window_of
 from document import Reply
+from tables import descriptor_of, segments_in, window_of
 
 PAGE = mmap.PAGESIZE
 WAIT_SECONDS = 20
