@@ -14,7 +14,8 @@ use borrow.Author.Tests.{lt-ltb, le-ltb}
 use Rattle.lists.specs.Plain.{positions, filter, count, any, joined}
 use Rattle.lists.specs.Tests.{gate, clash, or-assoc, or-none, or-left, or-right}
 use Rattle.lists.specs.Counting.{filter-count, count-at}
-use Rattle.lists.specs.Positions.{positions-length, positions-count}
+use Rattle.lists.specs.Every.{All, Sorted, all-append}
+use Rattle.lists.specs.Positions.{positions-length, positions-count, positions-below}
 
 -- ---- what is made of each position
 module _ {A : Type 0} where
@@ -162,6 +163,16 @@ module _ {q : ℕ → Bool} {n : ℕ} where
 -- ---- how often a number is among those that pass: once if it is a position and passes, otherwise never
 pub count-chosen : (q : ℕ → Bool) (n p : ℕ) → count (eqb p) (filter q (positions n)) ≡ gate (q p) (gate (ltb p n) 1)
 count-chosen q n p = filter-count (eqb p) q (positions n) ∙ count-at q p (positions n) ∙ ap (gate (q p)) (positions-count p n)
+
+-- ---- positions ascend, and so do those that pass
+pub sorted-snoc : {A : Type 0} {R : A → A → Type 0} {l : List A} {z : A} → Sorted R l → All (λ x. R x z) l → Sorted R (l ++ (z ∷ []))
+sorted-snoc Sorted.none h = Sorted.next All.none Sorted.none
+sorted-snoc (Sorted.next k s) (All.also p h) = Sorted.next (all-append k (All.also p All.none)) (sorted-snoc s h)
+
+pub positions-sorted : (n : ℕ) → Sorted (λ p q. p < q) (positions n)
+unfolding positions
+positions-sorted zero = Sorted.none
+positions-sorted (suc n) = sorted-snoc (positions-sorted n) (positions-below n n (le-refl n))
 
 -- ---- cells with others written over their front
 module _ {A : Type 0} where

@@ -15,14 +15,14 @@ use paper::Segment;
 use paper::Window;
 
 // Answer 8.
-pub fn bad_window(w: Window) -> bool
-    ensures { λ r. ⌜ r ≡ badWindow w .given ⌝ }
+pub fn bad_window(window: Window) -> bool
+    ensures { λ r. ⌜ r ≡ badWindow window .given ⌝ }
 {
-    let a = (-536870912 <= w.a) & (w.a <= 536870912);
-    let b = (-536870912 <= w.b) & (w.b <= 536870912);
-    let c = (-536870912 <= w.c) & (w.c <= 536870912);
-    let d = (-536870912 <= w.d) & (w.d <= 536870912);
-    (w.b < w.a) | (w.d < w.c) | !(a & b & c & d)
+    let a = (-536870912 <= window.a) & (window.a <= 536870912);
+    let b = (-536870912 <= window.b) & (window.b <= 536870912);
+    let c = (-536870912 <= window.c) & (window.c <= 536870912);
+    let d = (-536870912 <= window.d) & (window.d <= 536870912);
+    (window.b < window.a) | (window.d < window.c) | !(a & b & c & d)
 }
 
 // ---- the boxes
@@ -50,36 +50,36 @@ fn gap(lo: i64, hi: i64, u1: i64, u2: i64) -> i64
 }
 
 // Whether the boxes overlap on both axes. One number is compared once: comparisons joined by `&` would be as many branches.
-fn boxes_overlap(s: Segment, w: Window) -> bool
-    requires { ⌜ Near s × Framed w ⌝ }
-    ensures { λ r. ⌜ r ≡ (overlaps (w .a) (w .b) (s .x1) (s .x2) && overlaps (w .c) (w .d) (s .y1) (s .y2)) ⌝ }
+fn boxes_overlap(segment: Segment, window: Window) -> bool
+    requires { ⌜ Near segment × Framed window ⌝ }
+    ensures { λ r. ⌜ r ≡ (overlaps (window .a) (window .b) (segment .x1) (segment .x2) && overlaps (window .c) (window .d) (segment .y1) (segment .y2)) ⌝ }
 {
-    let across = gap(w.a, w.b, s.x1, s.x2);
-    let along = gap(w.c, w.d, s.y1, s.y2);
+    let across = gap(window.a, window.b, segment.x1, segment.x2);
+    let along = gap(window.c, window.d, segment.y1, segment.y2);
     larger(across, along) <= 0
 }
 
 // ---- the corners
 
 // The weight of the point (x, y) against the segment's line: its sign is the side.
-fn weight(s: Segment, x: i64, y: i64) -> i64
-    requires { ⌜ Near s × Small x × Small y ⌝ }
-    ensures { λ r. ⌜ r ≡ Weight s x y ⌝ }
+fn weight(segment: Segment, x: i64, y: i64) -> i64
+    requires { ⌜ Near segment × Small x × Small y ⌝ }
+    ensures { λ r. ⌜ r ≡ Weight segment x y ⌝ }
 {
-    (s.x2 - s.x1) * (y - s.y1) - (s.y2 - s.y1) * (x - s.x1)
+    (segment.x2 - segment.x1) * (y - segment.y1) - (segment.y2 - segment.y1) * (x - segment.x1)
 }
 
 // Whether the corners are not all strictly on one side of the segment's line.
-fn both_sides(s: Segment, corners: [[i64; 2]; 4]) -> bool
-    requires { ⌜ Near s × SmallPoints corners ⌝ }
-    ensures { λ r. ⌜ r ≡ bothSides s corners 4 ⌝ }
+fn both_sides(segment: Segment, corners: [[i64; 2]; 4]) -> bool
+    requires { ⌜ Near segment × SmallPoints corners ⌝ }
+    ensures { λ r. ⌜ r ≡ bothSides segment corners 4 ⌝ }
 {
     let mut above = false;
     let mut below = false;
     let mut k = 0;
     while k < 4 {
         let corner = corners[k];
-        let side = weight(s, corner[0], corner[1]);
+        let side = weight(segment, corner[0], corner[1]);
         above = above | (0 <= side);
         below = below | (side <= 0);
         k += 1;
@@ -90,13 +90,21 @@ fn both_sides(s: Segment, corners: [[i64; 2]; 4]) -> bool
 // ---- the whole
 
 // Whether a segment meets a window, both within the limits.
-pub fn meets(s: Segment, w: Window) -> bool
-    requires { ⌜ (farOff s ≡ false) × (badWindow w .given ≡ false) ⌝ }
-    ensures { λ r. ⌜ (r ≡ weighed w s) × ((r ≡ true) ↔ Meets s w) ⌝ }
+pub fn meets(segment: Segment, window: Window) -> bool
+    requires { ⌜ (farOff segment ≡ false) × (badWindow window .given ≡ false) ⌝ }
+    ensures { λ r. ⌜ (r ≡ weighed window segment) × ((r ≡ true) ↔ Meets segment window) ⌝ }
 {
-    if !boxes_overlap(s, w) {
+    if !boxes_overlap(segment, window) {
         return false;
     }
     // low-left, low-right, high-left, high-right
-    both_sides(s, [[w.a, w.c], [w.b, w.c], [w.a, w.d], [w.b, w.d]])
+    both_sides(
+        segment,
+        [
+            [window.a, window.c],
+            [window.b, window.c],
+            [window.a, window.d],
+            [window.b, window.d],
+        ],
+    )
 }

@@ -12,11 +12,11 @@ use paper::Descriptor;
 use paper::Window;
 
 // The number of position i.
-fn number(d: Descriptor, i: usize) -> i32
-    requires { ⌜ (i < 4096) × (badLower (d .kind) (d .lower) .given ≡ false) ⌝ }
-    ensures { λ r. ⌜ r ≡ numberOf (firstNumber (d .kind) (d .lower)) i ⌝ }
+fn number(descriptor: Descriptor, i: usize) -> i32
+    requires { ⌜ (i < 4096) × (badLower (descriptor .kind) (descriptor .lower) .given ≡ false) ⌝ }
+    ensures { λ r. ⌜ r ≡ numberOf (firstNumber (descriptor .kind) (descriptor .lower)) i ⌝ }
 {
-    whole::narrow(table::first_number(d) + whole::count(i))
+    whole::narrow(table::first_number(descriptor) + whole::count(i))
 }
 
 // z into cell k where it is a hit; the next free cell.
@@ -32,17 +32,16 @@ fn keep(numbers: &mut [i32], k: usize, z: i32, hit: bool) -> usize
 }
 
 // The numbers of the segments that meet the window into the first cells, which the others follow unchanged; how many.
-pub fn list(table: &[i32], d: Descriptor, w: Window, numbers: &mut [i32]) -> usize
-    requires { ⌜ Ready (now table) d w × (sizeOf d ≤ length (now numbers)) ⌝ }
-    ensures { λ r. ⌜ (r ≡ length (metPositions (now (table .entry)) d w)) × (r ≤ 4096) × (now (numbers .exit) ≡ over (metNumbers (now (table .entry)) d w) (now (numbers .entry))) ⌝ }
+pub fn list(table: &[i32], descriptor: Descriptor, window: Window, numbers: &mut [i32]) -> usize
+    requires { ⌜ Ready (now table) descriptor window × (sizeOf descriptor ≤ length (now numbers)) ⌝ }
+    ensures { λ r. ⌜ (r ≡ length (metPositions (now (table .entry)) descriptor window)) × (r ≤ 4096) × (now (numbers .exit) ≡ over (metNumbers (now (table .entry)) descriptor window) (now (numbers .entry))) ⌝ }
 {
-    let n = table::count(d);
+    let n = table::count(descriptor);
     let mut k = 0;
     let mut i = 0;
     while i < n {
-        let s = table::segment(table, d, i);
-        let hit = meeting::meets(s, w);
-        let z = number(d, i);
+        let hit = meeting::meets(table::segment(table, descriptor, i), window);
+        let z = number(descriptor, i);
         k = keep(numbers, k, z, hit);
         i += 1;
     }

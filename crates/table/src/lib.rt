@@ -18,18 +18,18 @@ use paper::Segment;
 
 // ---- refusals 1, 2, 3
 
-pub fn bad_kind(d: Descriptor) -> bool
-    ensures { λ r. ⌜ r ≡ badKind (d .kind) .given ⌝ }
+pub fn bad_kind(descriptor: Descriptor) -> bool
+    ensures { λ r. ⌜ r ≡ badKind (descriptor .kind) .given ⌝ }
 {
-    !((1 <= d.kind) & (d.kind <= 3))
+    !((1 <= descriptor.kind) & (descriptor.kind <= 3))
 }
 
-pub fn bad_lower(d: Descriptor) -> bool
-    ensures { λ r. ⌜ r ≡ badLower (d .kind) (d .lower) .given ⌝ }
+pub fn bad_lower(descriptor: Descriptor) -> bool
+    ensures { λ r. ⌜ r ≡ badLower (descriptor .kind) (descriptor .lower) .given ⌝ }
 {
-    let other = (d.kind <= 3) & (3 <= d.kind);
-    let zero = (d.lower <= 0) & (0 <= d.lower);
-    !((-1000000 <= d.lower) & (d.lower <= 1000000)) | (other & !zero)
+    let other = (descriptor.kind <= 3) & (3 <= descriptor.kind);
+    let zero = (descriptor.lower <= 0) & (0 <= descriptor.lower);
+    !((-1000000 <= descriptor.lower) & (descriptor.lower <= 1000000)) | (other & !zero)
 }
 
 pub fn bad_extent(n: i64) -> bool
@@ -39,73 +39,76 @@ pub fn bad_extent(n: i64) -> bool
 }
 
 // How many positions there are.
-pub fn count(d: Descriptor) -> usize
-    requires { ⌜ badExtent (d .extent) .given ≡ false ⌝ }
-    ensures { λ r. ⌜ (r ≡ sizeOf d) × (r ≤ 4096) ⌝ }
+pub fn count(descriptor: Descriptor) -> usize
+    requires { ⌜ badExtent (descriptor .extent) .given ≡ false ⌝ }
+    ensures { λ r. ⌜ (r ≡ sizeOf descriptor) × (r ≤ 4096) ⌝ }
 {
-    whole::index(d.extent)
+    whole::index(descriptor.extent)
 }
 
 // The number of position 0; position i has the i-th after it.
-pub fn first_number(d: Descriptor) -> i64
-    ensures { λ r. ⌜ r ≡ firstNumber (d .kind) (d .lower) ⌝ }
+pub fn first_number(descriptor: Descriptor) -> i64
+    ensures { λ r. ⌜ r ≡ firstNumber (descriptor .kind) (descriptor .lower) ⌝ }
     ensures fits { λ r. ⌜ SFits w64 r ⌝ }
 {
-    d.lower
+    descriptor.lower
 }
 
 // ---- refusal 4
 
-fn bad_stride(d: Descriptor) -> bool
-    ensures { λ r. ⌜ r ≡ badStride d ⌝ }
+fn bad_stride(descriptor: Descriptor) -> bool
+    ensures { λ r. ⌜ r ≡ badStride descriptor ⌝ }
 {
-    let segment = (-1048576 <= d.segment_stride) & (d.segment_stride <= 1048576);
-    let coordinate = (-1048576 <= d.coordinate_stride) & (d.coordinate_stride <= 1048576);
+    let segment = (-1048576 <= descriptor.segment_stride) & (descriptor.segment_stride <= 1048576);
+    let coordinate = (-1048576 <= descriptor.coordinate_stride)
+        & (descriptor.coordinate_stride <= 1048576);
     !segment | !coordinate
 }
 
-fn bad_base(len: i64, d: Descriptor) -> bool
-    ensures { λ r. ⌜ r ≡ Outside len (d .base) ⌝ }
+fn bad_base(len: i64, descriptor: Descriptor) -> bool
+    ensures { λ r. ⌜ r ≡ Outside len (descriptor .base) ⌝ }
 {
-    let base = d.base;
+    let base = descriptor.base;
     (base < 0) | (len <= base)
 }
 
 // How far from the base coordinate j of position i stands.
-fn offset(d: Descriptor, i: usize, j: usize) -> i64
-    requires { ⌜ (i < 4096) × (j < 4) × (badStride d ≡ false) ⌝ }
-    ensures { λ r. ⌜ r ≡ offsetOf d i j ⌝ }
+fn offset(descriptor: Descriptor, i: usize, j: usize) -> i64
+    requires { ⌜ (i < 4096) × (j < 4) × (badStride descriptor ≡ false) ⌝ }
+    ensures { λ r. ⌜ r ≡ offsetOf descriptor i j ⌝ }
 {
-    whole::count(i) * d.segment_stride + whole::count(j) * d.coordinate_stride
+    whole::count(i) * descriptor.segment_stride + whole::count(j) * descriptor.coordinate_stride
 }
 
 // Whether coordinate j of position i stands outside a table of len cells. The base is a cell of it, so neither difference can wrap.
-fn outside(len: i64, d: Descriptor, i: usize, j: usize) -> bool
-    requires { ⌜ (i < 4096) × (j < 4) × Based len d ⌝ }
-    ensures { λ r. ⌜ r ≡ Outside len (cellOf d i j) ⌝ }
+fn outside(len: i64, descriptor: Descriptor, i: usize, j: usize) -> bool
+    requires { ⌜ (i < 4096) × (j < 4) × Based len descriptor ⌝ }
+    ensures { λ r. ⌜ r ≡ Outside len (cellOf descriptor i j) ⌝ }
 {
-    let away = offset(d, i, j);
-    let base = d.base;
+    let away = offset(descriptor, i, j);
+    let base = descriptor.base;
     (base < 0 - away) | (len - base <= away)
 }
 
 // Whether one of n positions has a cell outside the table. The ends of the first row and of the last decide it: a cell of the rows stands between them.
-fn any_outside(len: i64, d: Descriptor, n: usize) -> bool
-    requires { ⌜ (0 < n) × (n ≤ 4096) × Based len d ⌝ }
-    ensures { λ r. ⌜ r ≡ any (rowOutside len d) (positions n) ⌝ }
+fn any_outside(len: i64, descriptor: Descriptor, n: usize) -> bool
+    requires { ⌜ (0 < n) × (n ≤ 4096) × Based len descriptor ⌝ }
+    ensures { λ r. ⌜ r ≡ any (rowOutside len descriptor) (positions n) ⌝ }
 {
     let last = n - 1;
-    outside(len, d, 0, 3) | outside(len, d, last, 0) | outside(len, d, last, 3)
+    outside(len, descriptor, 0, 3)
+        | outside(len, descriptor, last, 0)
+        | outside(len, descriptor, last, 3)
 }
 
 // The first coordinate of position i that stands outside the table, or 4.
-pub fn first_in_row(len: i64, d: Descriptor, i: usize) -> usize
-    requires { ⌜ (i < 4096) × Based len d ⌝ }
-    ensures { λ r. ⌜ First (λ j. Outside len (cellOf d i j)) 4 r ⌝ }
+pub fn first_in_row(len: i64, descriptor: Descriptor, i: usize) -> usize
+    requires { ⌜ (i < 4096) × Based len descriptor ⌝ }
+    ensures { λ r. ⌜ First (λ j. Outside len (cellOf descriptor i j)) 4 r ⌝ }
 {
     let mut j = 0;
     while j < 4 {
-        if outside(len, d, i, j) {
+        if outside(len, descriptor, i, j) {
             return j;
         }
         j += 1;
@@ -114,16 +117,16 @@ pub fn first_in_row(len: i64, d: Descriptor, i: usize) -> usize
 }
 
 // The first of n positions that has a cell outside the table, or n. The positions are gone through only where there is one.
-pub fn first_row(len: i64, d: Descriptor, n: usize) -> usize
-    requires { ⌜ (0 < n) × (n ≤ 4096) × Based len d ⌝ }
-    ensures { λ r. ⌜ First (rowOutside len d) n r ⌝ }
+pub fn first_row(len: i64, descriptor: Descriptor, n: usize) -> usize
+    requires { ⌜ (0 < n) × (n ≤ 4096) × Based len descriptor ⌝ }
+    ensures { λ r. ⌜ First (rowOutside len descriptor) n r ⌝ }
 {
-    if !any_outside(len, d, n) {
+    if !any_outside(len, descriptor, n) {
         return n;
     }
     let mut i = 0;
     while i < n {
-        if first_in_row(len, d, i) < 4 {
+        if first_in_row(len, descriptor, i) < 4 {
             return i;
         }
         i += 1;
@@ -132,53 +135,53 @@ pub fn first_row(len: i64, d: Descriptor, n: usize) -> usize
 }
 
 // Answer 4: a stride beyond its limits, or an addressed cell outside a table of len cells.
-pub fn bad_cells(len: i64, d: Descriptor) -> bool
-    requires { ⌜ badExtent (d .extent) .given ≡ false ⌝ }
-    ensures { λ r. ⌜ r ≡ badCells len d .given ⌝ }
+pub fn bad_cells(len: i64, descriptor: Descriptor) -> bool
+    requires { ⌜ badExtent (descriptor .extent) .given ≡ false ⌝ }
+    ensures { λ r. ⌜ r ≡ badCells len descriptor .given ⌝ }
 {
-    if bad_stride(d) {
+    if bad_stride(descriptor) {
         return true;
     }
-    let n = count(d);
+    let n = count(descriptor);
     if n == 0 {
         return false;
     }
-    if bad_base(len, d) {
+    if bad_base(len, descriptor) {
         return true;
     }
-    first_row(len, d, n) < n
+    first_row(len, descriptor, n) < n
 }
 
 // ---- one cell
 
 // The cell of coordinate j of position i.
-pub fn cell(d: Descriptor, i: usize, j: usize) -> i64
-    requires { ⌜ (i < 4096) × (j < 4) × (badStride d ≡ false) × SFits w64 (cellOf d i j) ⌝ }
-    ensures { λ r. ⌜ r ≡ cellOf d i j ⌝ }
+pub fn cell(descriptor: Descriptor, i: usize, j: usize) -> i64
+    requires { ⌜ (i < 4096) × (j < 4) × (badStride descriptor ≡ false) × SFits w64 (cellOf descriptor i j) ⌝ }
+    ensures { λ r. ⌜ r ≡ cellOf descriptor i j ⌝ }
     ensures fits { λ r. ⌜ SFits w64 r ⌝ }
 {
-    let away = offset(d, i, j);
-    let base = d.base;
+    let away = offset(descriptor, i, j);
+    let base = descriptor.base;
     base + away
 }
 
 // Coordinate j of position i: its cell is shown to be one of the table's before it is used as an index.
-pub fn coordinate(table: &[i32], d: Descriptor, i: usize, j: usize) -> i64
-    requires { ⌜ (i < sizeOf d) × (j < 4) × Held (pos (length (now table))) d ⌝ }
-    ensures { λ r. ⌜ r ≡ getD (now (table .entry)) (toNat (cellOf d i j)) (pos 0) ⌝ }
+pub fn coordinate(table: &[i32], descriptor: Descriptor, i: usize, j: usize) -> i64
+    requires { ⌜ (i < sizeOf descriptor) × (j < 4) × Held (pos (length (now table))) descriptor ⌝ }
+    ensures { λ r. ⌜ r ≡ getD (now (table .entry)) (toNat (cellOf descriptor i j)) (pos 0) ⌝ }
     ensures fits { λ r. ⌜ SFits w64 r ⌝ }
 {
-    whole::cell(table, whole::index(cell(d, i, j)))
+    whole::cell(table, whole::index(cell(descriptor, i, j)))
 }
 
-pub fn segment(table: &[i32], d: Descriptor, i: usize) -> Segment
-    requires { ⌜ (i < sizeOf d) × Held (pos (length (now table))) d ⌝ }
-    ensures { λ r. ⌜ r ≡ segmentOf d (now (table .entry)) i ⌝ }
+pub fn segment(table: &[i32], descriptor: Descriptor, i: usize) -> Segment
+    requires { ⌜ (i < sizeOf descriptor) × Held (pos (length (now table))) descriptor ⌝ }
+    ensures { λ r. ⌜ r ≡ segmentOf descriptor (now (table .entry)) i ⌝ }
 {
-    let x1 = coordinate(table, d, i, 0);
-    let y1 = coordinate(table, d, i, 1);
-    let x2 = coordinate(table, d, i, 2);
-    let y2 = coordinate(table, d, i, 3);
+    let x1 = coordinate(table, descriptor, i, 0);
+    let y1 = coordinate(table, descriptor, i, 1);
+    let x2 = coordinate(table, descriptor, i, 2);
+    let y2 = coordinate(table, descriptor, i, 3);
     Segment {
         x1: x1,
         y1: y1,
@@ -189,59 +192,57 @@ pub fn segment(table: &[i32], d: Descriptor, i: usize) -> Segment
 
 // ---- refusals 5 and 6: the first position whose segment has the fault that the answer number stands for
 
-pub fn far_off(s: Segment) -> bool
-    ensures { λ r. ⌜ r ≡ farOff s ⌝ }
+pub fn far_off(segment: Segment) -> bool
+    ensures { λ r. ⌜ r ≡ farOff segment ⌝ }
 {
-    let x1 = (-536870912 <= s.x1) & (s.x1 <= 536870912);
-    let y1 = (-536870912 <= s.y1) & (s.y1 <= 536870912);
-    let x2 = (-536870912 <= s.x2) & (s.x2 <= 536870912);
-    let y2 = (-536870912 <= s.y2) & (s.y2 <= 536870912);
+    let x1 = (-536870912 <= segment.x1) & (segment.x1 <= 536870912);
+    let y1 = (-536870912 <= segment.y1) & (segment.y1 <= 536870912);
+    let x2 = (-536870912 <= segment.x2) & (segment.x2 <= 536870912);
+    let y2 = (-536870912 <= segment.y2) & (segment.y2 <= 536870912);
     !(x1 & y1 & x2 & y2)
 }
 
-fn slanted(s: Segment) -> bool
-    ensures { λ r. ⌜ r ≡ Slanted s ⌝ }
+fn slanted(segment: Segment) -> bool
+    ensures { λ r. ⌜ r ≡ Slanted segment ⌝ }
 {
-    let level = (s.y1 <= s.y2) & (s.y2 <= s.y1);
-    let upright = (s.x1 <= s.x2) & (s.x2 <= s.x1);
+    let level = (segment.y1 <= segment.y2) & (segment.y2 <= segment.y1);
+    let upright = (segment.x1 <= segment.x2) & (segment.x2 <= segment.x1);
     !level & !upright
 }
 
-fn fault(number: usize, s: Segment) -> bool
-    ensures { λ r. ⌜ r ≡ Fault number s ⌝ }
+fn fault(number: usize, segment: Segment) -> bool
+    ensures { λ r. ⌜ r ≡ Fault number segment ⌝ }
 {
     if number == 5 {
-        return far_off(s);
+        return far_off(segment);
     }
-    slanted(s)
+    slanted(segment)
 }
 
 // Whether one of n segments has the fault. No branch: the common case is that none has.
-fn any_fault(number: usize, table: &[i32], d: Descriptor, n: usize) -> bool
-    requires { ⌜ (n ≡ sizeOf d) × Held (pos (length (now table))) d ⌝ }
-    ensures { λ r. ⌜ r ≡ any (λ p. Fault number (segmentOf d (now (table .entry)) p)) (positions n) ⌝ }
+fn any_fault(number: usize, table: &[i32], descriptor: Descriptor, n: usize) -> bool
+    requires { ⌜ (n ≡ sizeOf descriptor) × Held (pos (length (now table))) descriptor ⌝ }
+    ensures { λ r. ⌜ r ≡ any (λ p. Fault number (segmentOf descriptor (now (table .entry)) p)) (positions n) ⌝ }
 {
     let mut bad = false;
     let mut i = 0;
     while i < n {
-        let s = segment(table, d, i);
-        bad = bad | fault(number, s);
+        bad = bad | fault(number, segment(table, descriptor, i));
         i += 1;
     }
     bad
 }
 
-fn first_fault(number: usize, table: &[i32], d: Descriptor, n: usize) -> usize
-    requires { ⌜ (n ≡ sizeOf d) × Held (pos (length (now table))) d ⌝ }
-    ensures { λ r. ⌜ First (λ p. Fault number (segmentOf d (now (table .entry)) p)) n r ⌝ }
+fn first_fault(number: usize, table: &[i32], descriptor: Descriptor, n: usize) -> usize
+    requires { ⌜ (n ≡ sizeOf descriptor) × Held (pos (length (now table))) descriptor ⌝ }
+    ensures { λ r. ⌜ First (λ p. Fault number (segmentOf descriptor (now (table .entry)) p)) n r ⌝ }
 {
-    if !any_fault(number, table, d, n) {
+    if !any_fault(number, table, descriptor, n) {
         return n;
     }
     let mut i = 0;
     while i < n {
-        let s = segment(table, d, i);
-        if fault(number, s) {
+        if fault(number, segment(table, descriptor, i)) {
             return i;
         }
         i += 1;
@@ -250,19 +251,19 @@ fn first_fault(number: usize, table: &[i32], d: Descriptor, n: usize) -> usize
 }
 
 // The first of n positions with a coordinate beyond its limits, or n.
-pub fn first_far(table: &[i32], d: Descriptor, n: usize) -> usize
-    requires { ⌜ (n ≡ sizeOf d) × Held (pos (length (now table))) d ⌝ }
-    ensures { λ r. ⌜ First (λ p. farOff (segmentOf d (now (table .entry)) p)) n r × (badCoordinate (segmentsOf d (now (table .entry))) ≡ foundAt 5 n r) ⌝ }
+pub fn first_far(table: &[i32], descriptor: Descriptor, n: usize) -> usize
+    requires { ⌜ (n ≡ sizeOf descriptor) × Held (pos (length (now table))) descriptor ⌝ }
+    ensures { λ r. ⌜ First (λ p. farOff (segmentOf descriptor (now (table .entry)) p)) n r × (badCoordinate (segmentsOf descriptor (now (table .entry))) ≡ foundAt 5 n r) ⌝ }
 {
-    first_fault(5, table, d, n)
+    first_fault(5, table, descriptor, n)
 }
 
 // The first of n positions whose segment is neither horizontal nor vertical, or n.
-pub fn first_slanted(table: &[i32], d: Descriptor, n: usize) -> usize
-    requires { ⌜ (n ≡ sizeOf d) × Held (pos (length (now table))) d ⌝ }
-    ensures { λ r. ⌜ First (λ p. Slanted (segmentOf d (now (table .entry)) p)) n r × (badSlant (segmentsOf d (now (table .entry))) ≡ foundAt 6 n r) ⌝ }
+pub fn first_slanted(table: &[i32], descriptor: Descriptor, n: usize) -> usize
+    requires { ⌜ (n ≡ sizeOf descriptor) × Held (pos (length (now table))) descriptor ⌝ }
+    ensures { λ r. ⌜ First (λ p. Slanted (segmentOf descriptor (now (table .entry)) p)) n r × (badSlant (segmentsOf descriptor (now (table .entry))) ≡ foundAt 6 n r) ⌝ }
 {
-    first_fault(6, table, d, n)
+    first_fault(6, table, descriptor, n)
 }
 
 // ---- words of an index

@@ -17,11 +17,11 @@ use Rattle.meeting.proofs.both_sides.Statement.{statement}
 use Rattle.meeting.proofs.both_sides.Tie as tie
 
 abbrev Inv-loop : tie.InvT-loop
-Inv-loop s corners above₀ below₀ k₀ above below k =
-    (k ≤ 4) × (above ≡ any (λ i. leZ (pos 0) (weightAt s corners i)) (positions k)) × (below ≡ any (λ i. leZ (weightAt s corners i) (pos 0)) (positions k))
+Inv-loop segment corners above₀ below₀ k₀ above below k =
+    (k ≤ 4) × (above ≡ any (λ i. leZ (pos 0) (weightAt segment corners i)) (positions k)) × (below ≡ any (λ i. leZ (weightAt segment corners i) (pos 0)) (positions k))
 
 abbrev μ-loop : tie.MeasureT-loop
-μ-loop s corners above₀ below₀ k₀ above below k = 4 - k
+μ-loop segment corners above₀ below₀ k₀ above below k = 4 - k
 
 loop-holds : tie.Need-loop-holds Inv-loop μ-loop
 loop-holds c = (search needs, sym (any-zero _), sym (any-zero _))
@@ -56,10 +56,10 @@ loop-again c =
     let a = s .args in
     let k = c .before .before .before .before .before .loop .k in
     let inv = c .before .before .before .before .before .loop .inv in
-    let w : R (c .weight .result) ≡ weightAt (a .s) (a .t2) k =
-    toZ-ofZ w64 (c .weight .result) (record { sfits = c .weight .ok }) ∙ c .weight .ensures ∙ ap₂ (weight (a .s)) (clean (s .pre .1 .x k)) (clean (s .pre .1 .y k)) in
-    let up : ℕ → Bool = λ i. leZ (pos 0) (weightAt (a .s) (a .t2) i) in
-    let down : ℕ → Bool = λ i. leZ (weightAt (a .s) (a .t2) i) (pos 0) in (
+    let w : R (c .weight .result) ≡ weightAt (a .segment) (a .t2) k =
+    toZ-ofZ w64 (c .weight .result) (record { sfits = c .weight .ok }) ∙ c .weight .ensures ∙ ap₂ (weight (a .segment)) (clean (s .pre .1 .x k)) (clean (s .pre .1 .y k)) in
+    let up : ℕ → Bool = λ i. leZ (pos 0) (weightAt (a .segment) (a .t2) i) in
+    let down : ℕ → Bool = λ i. leZ (weightAt (a .segment) (a .t2) i) (pos 0) in (
       omega arith,
       ap₂ (λ x y. x || y) (inv .1) (ap (λ z. leZ (pos 0) z) w) ∙ sym (any-next up k),
       ap₂ (λ x y. x || y) (inv .2) (ap (λ z. leZ z (pos 0)) w) ∙ sym (any-next down k),
@@ -70,7 +70,7 @@ returns c =
     let a = c .before .before .args in
     let inv = c .before .loop .inv in
     let e : c .before .loop .k ≡ 4 = omega arith in
-    ap₂ (λ x y. x && y) (inv .1) (inv .2) ∙ ap (bothSides (a .s) (a .t2)) e
+    ap₂ (λ x y. x && y) (inv .1) (inv .2) ∙ ap (bothSides (a .segment) (a .t2)) e
 
 pub both-sides-spec : {M : Type 1} → statement M
 both-sides-spec =

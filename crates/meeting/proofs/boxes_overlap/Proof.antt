@@ -26,8 +26,8 @@ returns c =
     let f = s .pre .1 in
     let p = c .before .before .before .before .before .before .gap in
     let q = c .before .gap2 in
-    let x : leZ (p .result) (pos 0) ≡ overlaps (a .w .a) (a .w .b) (a .s .x1) (a .s .x2) = rw (clean (f .a), clean (f .b), clean (n .x1), clean (n .x2)) at (p .ensures) in
-    let y : leZ (q .result) (pos 0) ≡ overlaps (a .w .c) (a .w .d) (a .s .y1) (a .s .y2) = rw (clean (f .c), clean (f .d), clean (n .y1), clean (n .y2)) at (q .ensures) in
+    let x : leZ (p .result) (pos 0) ≡ overlaps (a .window .a) (a .window .b) (a .segment .x1) (a .segment .x2) = rw (clean (f .a), clean (f .b), clean (n .x1), clean (n .x2)) at (p .ensures) in
+    let y : leZ (q .result) (pos 0) ≡ overlaps (a .window .c) (a .window .d) (a .segment .y1) (a .segment .y2) = rw (clean (f .c), clean (f .d), clean (n .y1), clean (n .y2)) at (q .ensures) in
     both-gaps (p .result) (q .result) (record { sfits = p .ok }) (record { sfits = q .ok }) (record { sfits = c .larger .ok }) (c .larger .ensures) x y
 
 pub boxes-overlap-spec : {M : Type 1} → statement M

@@ -15,17 +15,17 @@ use Rattle.scan.proofs.list.Statement.{statement}
 use Rattle.scan.proofs.list.Tie as tie
 
 abbrev Inv-loop : tie.InvT-loop
-Inv-loop table d w numbers₀ n k₀ i₀ numbers k i =
-    (i ≤ n) × (k ≡ length (chosen table d w i)) × (numbers ≡ over (listed table d w i) numbers₀)
+Inv-loop table descriptor window numbers₀ n k₀ i₀ numbers k i =
+    (i ≤ n) × (k ≡ length (chosen table descriptor window i)) × (numbers ≡ over (listed table descriptor window i) numbers₀)
 
 abbrev μ-loop : tie.MeasureT-loop
-μ-loop table d w numbers₀ n k₀ i₀ numbers k i = n - i
+μ-loop table descriptor window numbers₀ n k₀ i₀ numbers k i = n - i
 
 count-requires : tie.Need-count-requires Inv-loop μ-loop
 count-requires c κs = c .pre .0 .held .extent
 
 loop-holds : tie.Need-loop-holds Inv-loop μ-loop
-loop-holds c = let a = c .before .args in (omega arith, none-count (a .table .now) (a .d) (a .w), none-cells (a .table .now) (a .d) (a .w) (a .numbers .now))
+loop-holds c = let a = c .before .args in (omega arith, none-count (a .table .now) (a .descriptor) (a .window), none-cells (a .table .now) (a .descriptor) (a .window) (a .numbers .now))
 
 segment-requires : tie.Need-segment-requires Inv-loop μ-loop
 segment-requires c κs = (omega (arith, c .before .before .count .ensures .0), c .before .before .before .pre .0 .held)
@@ -46,7 +46,7 @@ keep-requires c κs =
     let s = c .before .before .before .before .before .before .before in
     let a = s .args in
     let l = c .before .before .before .before .before .loop in
-    omega (arith, l .inv .1, length-chosen (a .table .now) (a .d) (a .w) (l .i), ap length (l .inv .2), over-size (a .table .now) (a .d) (a .w) (l .i) (a .numbers .now) (room (c .before .before .before .before)), room (c .before .before .before .before), s .pre .1, c .before .before .before .before .before .before .count .ensures .0)
+    omega (arith, l .inv .1, length-chosen (a .table .now) (a .descriptor) (a .window) (l .i), ap length (l .inv .2), over-size (a .table .now) (a .descriptor) (a .window) (l .i) (a .numbers .now) (room (c .before .before .before .before)), room (c .before .before .before .before), s .pre .1, c .before .before .before .before .before .before .count .ensures .0)
 
 add-i : tie.Need-add-i Inv-loop μ-loop
 add-i c = search needs
@@ -59,11 +59,11 @@ loop-again c =
     let s = c .before .before .before .before .before .before .before .before .before in
     let a = s .args in
     let l = c .before .before .before .before .before .before .before .loop in
-    let hit = c .before .before .before .before .meets .ensures .0 ∙ ap (weighed (a .w)) (c .before .before .before .before .before .segment .ensures) in
+    let hit = c .before .before .before .before .meets .ensures .0 ∙ ap (weighed (a .window)) (c .before .before .before .before .before .segment .ensures) in
     let z = toZ-ofZ w32 (c .before .before .before .number .result) (record { sfits = c .before .before .before .number .ok }) ∙ c .before .before .before .number .ensures in (
       omega arith,
-      c .before .keep .ensures .0 ∙ count-more (a .table .now) (a .d) (a .w) (l .i) (l .k) (l .inv .1) hit,
-      c .before .keep .ensures .1 ∙ cells-more (a .table .now) (a .d) (a .w) (l .i) (l .k) (a .numbers .now) (l .inv .1) (omega (arith, s .pre .1, c .before .before .before .before .before .before .before .before .count .ensures .0)) hit (l .inv .2) z,
+      c .before .keep .ensures .0 ∙ count-more (a .table .now) (a .descriptor) (a .window) (l .i) (l .k) (l .inv .1) hit,
+      c .before .keep .ensures .1 ∙ cells-more (a .table .now) (a .descriptor) (a .window) (l .i) (l .k) (a .numbers .now) (l .inv .1) (omega (arith, s .pre .1, c .before .before .before .before .before .before .before .before .count .ensures .0)) hit (l .inv .2) z,
     )
 
 same-length : tie.Need-same-length Inv-loop μ-loop
@@ -71,7 +71,7 @@ same-length c =
     let s = c .before .before .before in
     let a = s .args in
     let l = c .before .loop in
-    ap length (l .inv .2) ∙ over-size (a .table .now) (a .d) (a .w) (l .i) (a .numbers .now) (omega (arith, l .inv .0, s .pre .1, c .before .before .count .ensures .0))
+    ap length (l .inv .2) ∙ over-size (a .table .now) (a .descriptor) (a .window) (l .i) (a .numbers .now) (omega (arith, l .inv .0, s .pre .1, c .before .before .count .ensures .0))
 
 returns : tie.Need-returns Inv-loop μ-loop
 returns c =
@@ -79,8 +79,8 @@ returns c =
     let l = c .before .loop in
     let n = c .before .before .count in
     let e : l .i ≡ n .result = omega arith in
-    let p : chosen (a .table .now) (a .d) (a .w) (l .i) ≡ _ = ap (chosen (a .table .now) (a .d) (a .w)) (e ∙ n .ensures .0) ∙ all-chosen (a .table .now) (a .d) (a .w) in
-    (l .inv .1 ∙ ap length p, omega (arith, l .inv .1, length-chosen (a .table .now) (a .d) (a .w) (l .i), n .ensures .1), l .inv .2 ∙ ap (λ ps. over (numbersOf (firstNumber (a .d .kind) (a .d .lower)) ps) (a .numbers .now)) p)
+    let p : chosen (a .table .now) (a .descriptor) (a .window) (l .i) ≡ _ = ap (chosen (a .table .now) (a .descriptor) (a .window)) (e ∙ n .ensures .0) ∙ all-chosen (a .table .now) (a .descriptor) (a .window) in
+    (l .inv .1 ∙ ap length p, omega (arith, l .inv .1, length-chosen (a .table .now) (a .descriptor) (a .window) (l .i), n .ensures .1), l .inv .2 ∙ ap (λ ps. over (numbersOf (firstNumber (a .descriptor .kind) (a .descriptor .lower)) ps) (a .numbers .now)) p)
 
 pub list-spec : {M : Type 1} → statement M
 list-spec =

@@ -14,16 +14,16 @@ count-requires : tie.Need-count-requires
 count-requires c κs = search needs
 
 add-narrow : tie.Need-add-narrow
-add-narrow c = let s = c .before .before in sum-fits (s .args .d) (s .args .i) (s .pre .0) (s .pre .1) (c .before .first-number .ensures .0) (c .count .ensures .0)
+add-narrow c = let s = c .before .before in sum-fits (s .args .descriptor) (s .args .i) (s .pre .0) (s .pre .1) (c .before .first-number .ensures .0) (c .count .ensures .0)
 
 narrow-requires : tie.Need-narrow-requires
-narrow-requires c κs = let s = c .before .before in sum-narrow (s .args .d) (s .args .i) (s .pre .0) (s .pre .1) (c .before .first-number .ensures .0) (c .count .ensures .0)
+narrow-requires c κs = let s = c .before .before in sum-narrow (s .args .descriptor) (s .args .i) (s .pre .0) (s .pre .1) (c .before .first-number .ensures .0) (c .count .ensures .0)
 
 returns : tie.Need-returns
 returns c =
     let s = c .before .before .before in
     toZ-ofZ w32 (c .narrow .result) (c .narrow .ensures .1) ∙ c .narrow .ensures .0
-    ∙ sum-is (s .args .d) (s .args .i) (s .pre .0) (s .pre .1) (c .before .before .first-number .ensures .0) (c .before .count .ensures .0)
+    ∙ sum-is (s .args .descriptor) (s .args .i) (s .pre .0) (s .pre .1) (c .before .before .first-number .ensures .0) (c .before .count .ensures .0)
 
 pub number-spec : {M : Type 1} → statement M
 number-spec =

@@ -12,10 +12,10 @@ use Rattle.table.proofs.any_fault.Statement.{statement}
 use Rattle.table.proofs.any_fault.Tie as tie
 
 abbrev Inv-loop : tie.InvT-loop
-Inv-loop number table d n bad₀ i₀ bad i = (i ≤ n) × (bad ≡ any (λ p. fault number (segmentOf d table p)) (positions i))
+Inv-loop number table descriptor n bad₀ i₀ bad i = (i ≤ n) × (bad ≡ any (λ p. fault number (segmentOf descriptor table p)) (positions i))
 
 abbrev μ-loop : tie.MeasureT-loop
-μ-loop number table d n bad₀ i₀ bad i = n - i
+μ-loop number table descriptor n bad₀ i₀ bad i = n - i
 
 loop-holds : tie.Need-loop-holds Inv-loop μ-loop
 loop-holds c = (search needs, sym (any-zero _))
@@ -35,14 +35,14 @@ loop-less c = search needs
 loop-again : tie.Need-loop-again Inv-loop μ-loop
 loop-again c =
     let a = c .before .before .before .before .args in
-    let q : ℕ → Bool = λ p. fault (a .number) (segmentOf (a .d) (a .table .now) p) in
+    let q : ℕ → Bool = λ p. fault (a .number) (segmentOf (a .descriptor) (a .table .now) p) in
     (omega arith, ap₂ (λ x y. x || y) (c .before .before .before .loop .inv .1) (c .fault .ensures ∙ ap (fault (a .number)) (c .before .segment .ensures)) ∙ sym (any-next q (c .before .before .before .loop .i)))
 
 returns : tie.Need-returns Inv-loop μ-loop
 returns c =
     let a = c .before .before .args in
     let e : c .before .loop .i ≡ a .n = omega arith in
-    c .before .loop .inv .1 ∙ ap (λ n. any (λ p. fault (a .number) (segmentOf (a .d) (a .table .now) p)) (positions n)) e
+    c .before .loop .inv .1 ∙ ap (λ n. any (λ p. fault (a .number) (segmentOf (a .descriptor) (a .table .now) p)) (positions n)) e
 
 pub any-fault-spec : {M : Type 1} → statement M
 any-fault-spec =

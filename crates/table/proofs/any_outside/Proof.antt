@@ -25,7 +25,7 @@ returns c =
     let s = c .before .before .before in
     let a = s .args in
     rw (c .before .before .outside .ensures, c .before .outside2 .ensures, c .outside3 .ensures, toZ-ofZ w64 (a .len) (s .fits .len))
-    (ends-decide (a .len) (a .d) (a .n) (a .n - 1) (omega arith) (s .pre .2 .base))
+    (ends-decide (a .len) (a .descriptor) (a .n) (a .n - 1) (omega arith) (s .pre .2 .base))
 
 pub any-outside-spec : {M : Type 1} → statement M
 any-outside-spec =

@@ -18,22 +18,22 @@ len-fits : (c : tie.Start) → SFits w64 (pos (length (c .args .table .now)))
 len-fits c = fits-by w64 (pos (length (c .args .table .now))) (omega arith)
 
 -- the index is the cell's number, and one of the table
-at : (c : tie.After-index) → (c .index .result < length (c .before .before .args .table .now)) × (c .index .result ≡ toNat (cellOf (c .before .before .args .d) (c .before .before .args .i) (c .before .before .args .j)))
+at : (c : tie.After-index) → (c .index .result < length (c .before .before .args .table .now)) × (c .index .result ≡ toNat (cellOf (c .before .before .args .descriptor) (c .before .before .args .i) (c .before .before .args .j)))
 at c =
     let s = c .before .before in
     let a = s .args in
-    index-is (length (a .table .now)) (a .d) (a .i) (a .j) (len-fits s) (s .pre .0) (s .pre .1) (s .pre .2) (c .index .result)
+    index-is (length (a .table .now)) (a .descriptor) (a .i) (a .j) (len-fits s) (s .pre .0) (s .pre .1) (s .pre .2) (c .index .result)
     (c .index .ensures ∙ toZ-ofZ w64 (c .before .cell .result) (c .before .cell .ensures .1) ∙ c .before .cell .ensures .0)
 
 cell-requires : tie.Need-cell-requires
-cell-requires c κs = let a = c .args in cell-asks (length (a .table .now)) (a .d) (a .i) (a .j) (len-fits c) (c .pre .0) (c .pre .1) (c .pre .2)
+cell-requires c κs = let a = c .args in cell-asks (length (a .table .now)) (a .descriptor) (a .i) (a .j) (len-fits c) (c .pre .0) (c .pre .1) (c .pre .2)
 
 index-requires : tie.Need-index-requires
 index-requires c κs =
     let s = c .before in
     let a = s .args in
     rw (toZ-ofZ w64 (c .cell .result) (c .cell .ensures .1), c .cell .ensures .0)
-    (cell-low (length (a .table .now)) (a .d) (a .i) (a .j) (len-fits s) (s .pre .0) (s .pre .1) (s .pre .2))
+    (cell-low (length (a .table .now)) (a .descriptor) (a .i) (a .j) (len-fits s) (s .pre .0) (s .pre .1) (s .pre .2))
 
 cell-requires-2 : tie.Need-cell-requires-2
 cell-requires-2 c κs = at c .0

@@ -13,10 +13,10 @@ use Rattle.table.proofs.first_fault.Statement.{statement}
 use Rattle.table.proofs.first_fault.Tie as tie
 
 abbrev Inv-loop : tie.InvT-loop
-Inv-loop number table d n i₀ i = (i ≤ n) × ((k : ℕ) → k < i → fault number (segmentOf d table k) ≡ false)
+Inv-loop number table descriptor n i₀ i = (i ≤ n) × ((k : ℕ) → k < i → fault number (segmentOf descriptor table k) ≡ false)
 
 abbrev μ-loop : tie.MeasureT-loop
-μ-loop number table d n i₀ i = n - i
+μ-loop number table descriptor n i₀ i = n - i
 
 any-fault-requires : tie.Need-any-fault-requires Inv-loop μ-loop
 any-fault-requires c κs = search needs
@@ -33,7 +33,7 @@ segment-requires c κs = (omega (arith, c .before .before .before .before .pre .
 fault-requires : tie.Need-fault-requires Inv-loop μ-loop
 fault-requires c κs = search needs
 
-seen : (c : tie.After-fault Inv-loop μ-loop) → fault (c .before .before .before .before .before .before .args .number) (segmentOf (c .before .before .before .before .before .before .args .d) (c .before .before .before .before .before .before .args .table .now) (c .before .before .before .loop .i)) ≡ c .fault .result
+seen : (c : tie.After-fault Inv-loop μ-loop) → fault (c .before .before .before .before .before .before .args .number) (segmentOf (c .before .before .before .before .before .before .args .descriptor) (c .before .before .before .before .before .before .args .table .now) (c .before .before .before .loop .i)) ≡ c .fault .result
 seen c = ap (fault (c .before .before .before .before .before .before .args .number)) (sym (c .before .segment .ensures)) ∙ sym (c .fault .ensures)
 
 returns-2 : tie.Need-returns-2 Inv-loop μ-loop

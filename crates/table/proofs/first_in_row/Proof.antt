@@ -14,10 +14,10 @@ use Rattle.table.proofs.first_in_row.Statement.{statement}
 use Rattle.table.proofs.first_in_row.Tie as tie
 
 abbrev Inv-loop : tie.InvT-loop
-Inv-loop len d i j₀ j = (j ≤ 4) × ((k : ℕ) → k < j → outside (toZ w64 len) (cellOf d i k) ≡ false)
+Inv-loop len descriptor i j₀ j = (j ≤ 4) × ((k : ℕ) → k < j → outside (toZ w64 len) (cellOf descriptor i k) ≡ false)
 
 abbrev μ-loop : tie.MeasureT-loop
-μ-loop len d i j₀ j = 4 - j
+μ-loop len descriptor i j₀ j = 4 - j
 
 loop-holds : tie.Need-loop-holds Inv-loop μ-loop
 loop-holds c = (search needs, below-none _)
@@ -28,7 +28,7 @@ outside-requires c κs = search needs
 returns : tie.Need-returns Inv-loop μ-loop
 returns c =
     let s = c .before .before .before .before in
-    first-through (λ l j. outside l (cellOf (s .args .d) (s .args .i) j)) (s .fits .len)
+    first-through (λ l j. outside l (cellOf (s .args .descriptor) (s .args .i) j)) (s .fits .len)
     (stopped (omega arith) (c .before .before .before .loop .inv .1) (sym (c .before .outside .ensures) ∙ c .if1 .taken))
 
 add-j : tie.Need-add-j Inv-loop μ-loop
@@ -43,7 +43,7 @@ loop-again c = (omega arith, below-more _ _ (c .before .before .before .loop .in
 returns-2 : tie.Need-returns-2 Inv-loop μ-loop
 returns-2 c =
     let s = c .before .before in
-    first-through (λ l j. outside l (cellOf (s .args .d) (s .args .i) j)) (s .fits .len) (ended (omega arith) (c .before .loop .inv .1))
+    first-through (λ l j. outside l (cellOf (s .args .descriptor) (s .args .i) j)) (s .fits .len) (ended (omega arith) (c .before .loop .inv .1))
 
 pub first-in-row-spec : {M : Type 1} → statement M
 first-in-row-spec =

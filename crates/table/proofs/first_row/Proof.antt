@@ -15,10 +15,10 @@ use Rattle.table.proofs.first_row.Statement.{statement}
 use Rattle.table.proofs.first_row.Tie as tie
 
 abbrev Inv-loop : tie.InvT-loop
-Inv-loop len d n i₀ i = (i ≤ n) × ((k : ℕ) → k < i → rowOutside (toZ w64 len) d k ≡ false)
+Inv-loop len descriptor n i₀ i = (i ≤ n) × ((k : ℕ) → k < i → rowOutside (toZ w64 len) descriptor k ≡ false)
 
 abbrev μ-loop : tie.MeasureT-loop
-μ-loop len d n i₀ i = n - i
+μ-loop len descriptor n i₀ i = n - i
 
 any-outside-requires : tie.Need-any-outside-requires Inv-loop μ-loop
 any-outside-requires c κs = search needs
@@ -26,7 +26,7 @@ any-outside-requires c κs = search needs
 returns : tie.Need-returns Inv-loop μ-loop
 returns c =
     let s = c .before .before in
-    first-through (λ l. rowOutside l (s .args .d)) (s .fits .len) (none-found (sym (c .before .any-outside .ensures) ∙ not-true _ (c .if1 .taken)))
+    first-through (λ l. rowOutside l (s .args .descriptor)) (s .fits .len) (none-found (sym (c .before .any-outside .ensures) ∙ not-true _ (c .if1 .taken)))
 
 loop-holds : tie.Need-loop-holds Inv-loop μ-loop
 loop-holds c = (search needs, below-none _)
@@ -37,7 +37,7 @@ first-in-row-requires c κs = search needs
 returns-2 : tie.Need-returns-2 Inv-loop μ-loop
 returns-2 c =
     let s = c .before .before .before .before .before .before in
-    first-through (λ l. rowOutside l (s .args .d)) (s .fits .len)
+    first-through (λ l. rowOutside l (s .args .descriptor)) (s .fits .len)
     (stopped (omega arith) (c .before .before .before .loop .inv .1) (sym (first-any (c .before .first-in-row .ensures)) ∙ lt-ltb _ _ (c .if2 .taken)))
 
 add-i : tie.Need-add-i Inv-loop μ-loop
@@ -52,7 +52,7 @@ loop-again c = (omega arith, below-more _ _ (c .before .before .before .loop .in
 returns-3 : tie.Need-returns-3 Inv-loop μ-loop
 returns-3 c =
     let s = c .before .before .before .before in
-    first-through (λ l. rowOutside l (s .args .d)) (s .fits .len) (ended (omega arith) (c .before .loop .inv .1))
+    first-through (λ l. rowOutside l (s .args .descriptor)) (s .fits .len) (ended (omega arith) (c .before .loop .inv .1))
 
 pub first-row-spec : {M : Type 1} → statement M
 first-row-spec =

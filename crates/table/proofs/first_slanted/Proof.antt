@@ -11,7 +11,7 @@ first-fault-requires c κs = search needs
 returns : tie.Need-returns
 returns c =
     let s = c .before in
-    (c .first-fault .ensures, first-answer (s .args .d) (s .args .table .now) 6 slanted (s .args .n) (c .first-fault .result) (s .pre .0) (c .first-fault .ensures))
+    (c .first-fault .ensures, first-answer (s .args .descriptor) (s .args .table .now) 6 slanted (s .args .n) (c .first-fault .result) (s .pre .0) (c .first-fault .ensures))
 
 pub first-slanted-spec : {M : Type 1} → statement M
 first-slanted-spec = tie.close (tie.spec first-fault-requires returns)

@@ -1,0 +1,16 @@
+-- `refusals::carries_place` meets its contract. Assumes nothing.
+use borrow.Author.Tests.{ne-eqb}
+use Rattle.marks.proofs.refusals.carries_place.Statement.{statement}
+use Rattle.marks.proofs.refusals.carries_place.Tie as tie
+
+returns : tie.Need-returns
+returns c = rw (c .match .keys1)
+
+returns-2 : tie.Need-returns-2
+returns-2 c = rw (c .match .keys2)
+
+returns-3 : tie.Need-returns-3
+returns-3 c = simp (ne-eqb _ _ (c .match .rest .0 .1), ne-eqb _ _ (c .match .rest .1))
+
+pub carries-place-spec : {M : Type 1} → statement M
+carries-place-spec = tie.close (tie.spec returns returns-2 returns-3)

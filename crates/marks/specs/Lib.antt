@@ -1,0 +1,3 @@
+-- Orders: laws of an order's outcome, shared by the public calls. Scanning: what the scan gives and promises, along its order.
+pub mod Orders
+pub mod Scanning

@@ -1,0 +1,35 @@
+// The public calls over lent buffers. No call asks anything of its input: bad input gets its answer number and leaves every cell as it was.
+ghost use mathlib.Core.Path.{_≡_};
+ghost use lib.IntN.{pos};
+ghost use Rattle.paper.specs.Results.{Scanned};
+ghost use Rattle.paper.specs.Demands.{ScanPromise};
+use paper::Descriptor;
+use paper::Reply;
+use paper::Window;
+
+mod refusals;
+
+// The numbers of the segments that meet a window, ascending, into the first cells; order 1, 2, 3, 4, 8, 7, 5.
+// Answer 0 promises that the number of each meeting segment is listed once, that nothing else is, and that the numbers ascend.
+pub fn scan(table: &[i32], descriptor: Descriptor, window: Window, numbers: &mut [i32]) -> Reply
+    ensures { λ r. ⌜ Scanned (now (table .entry)) descriptor window (now (numbers .entry)) (r, now (numbers .exit)) ⌝ }
+    ensures promise { λ r. ⌜ (r .number ≡ pos 0 → ScanPromise (now (table .entry)) descriptor window (r, now (numbers .exit))) ⌝ }
+{
+    let number = refusals::of_table(table, descriptor);
+    if number != 0 {
+        return refusals::refusal(number, 0);
+    }
+    if meeting::bad_window(window) {
+        return refusals::refusal(8, 0);
+    }
+    let n = table::count(descriptor);
+    if numbers.len() < n {
+        return refusals::refusal(7, 0);
+    }
+    let far = table::first_far(table, descriptor, n);
+    if far < n {
+        return refusals::refusal(5, far);
+    }
+    let count = scan::list(table, descriptor, window, numbers);
+    refusals::done(count, 0)
+}
