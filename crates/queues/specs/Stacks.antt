@@ -232,14 +232,3 @@ module _ (ws : List ℤ) (index : Index) (band : Band) (far : Bool) where
 -- ---- the loop's test and measure
 pub pop-less : (stack : List ℕ) (d s c : ℕ) → d ≡ suc c → work stack c (sizeAt stack c) < work stack d s
 pop-less stack d s c e = omega (arith, ap (total (sizeAt stack)) e, total-more (sizeAt stack) c)
-
-pub some-left : (s d : ℕ) → (ltb 0 s || ltb 0 d) ≡ true → s ≡ 0 → 0 < d
-some-left s d h e = ltb-true 0 d (sym (ap (λ (b : Bool). b || ltb 0 d) (le-ltb 0 s (omega arith))) ∙ h)
-
-pub none-left : (s d : ℕ) → (ltb 0 s || ltb 0 d) ≡ false → (s ≡ 0) × (d ≡ 0)
-none-left s d h = go (ltb 0 s) (ltb 0 d) refl refl h
-  where
-    go : (a b : Bool) → ltb 0 s ≡ a → ltb 0 d ≡ b → (a || b) ≡ false → (s ≡ 0) × (d ≡ 0)
-    go true b ea eb q = absurd (true≢false q)
-    go false true ea eb q = absurd (true≢false q)
-    go false false ea eb q = (omega (arith, ltb-false 0 s ea), omega (arith, ltb-false 0 d eb))

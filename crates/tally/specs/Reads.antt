@@ -1,5 +1,5 @@
 -- Words as the code reads them: a whole number or another one in a negative word's place; a record's coordinates by number.
-use mathlib.Core.Path.{_≡_, refl, sym, ap, _∙_}
+use mathlib.Core.Path.{_≡_, refl, sym, ap, ap₂, _∙_}
 use mathlib.Core.Bool.{Bool, true, false, true≢false, not, _&&_, cond}
 use mathlib.Core.List.{List, [], _∷_}
 use Prim.Native.Nat.{ℕ, zero, suc, _+_, _-_, _*_, _≤_, _<_}
@@ -148,6 +148,14 @@ coordinate-word ws p (suc zero) h = refl
 coordinate-word ws p (suc (suc zero)) h = refl
 coordinate-word ws p (suc (suc (suc zero))) h = refl
 coordinate-word ws p (suc (suc (suc (suc j)))) h = absurd (omega arith)
+
+-- a test of a record's word, made of an edge as the machine holds it
+module _ (ws : List ℤ) (p j at : ℕ) (e e′ : ℤ) (r : Bool) (h : j < 4) (place : at ≡ recordsAt + recordWords * p + j) (edge : e′ ≡ e) where
+  pub reaches-is : r ≡ leZ e′ (word ws at) → r ≡ leZ e (coordinate j (recordAt ws p))
+  reaches-is q = q ∙ ap₂ leZ edge (ap (word ws) place ∙ coordinate-word ws p j h)
+
+  pub keeps-is : r ≡ leZ (word ws at) e′ → r ≡ leZ (coordinate j (recordAt ws p)) e
+  keeps-is q = q ∙ ap₂ leZ (ap (word ws) place ∙ coordinate-word ws p j h) edge
 
 -- ---- orders of whole numbers by one test
 pub le-not : (a b : ℤ) → leZ a b ≡ not (ltZ b a)

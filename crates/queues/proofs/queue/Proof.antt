@@ -5,7 +5,8 @@ use Prim.Native.Nat.{suc, _-_, _<_}
 use lib.ListN.{length}
 use native.Mathlib.Omega.{arith}
 use borrow.Author.Needs.{needs}
-use Rattle.queues.specs.Stacks.{Stacked, work, stack-start, stack-stopped, stack-end, stack-pop, stack-push, stack-skip, stack-room, some-left, none-left, pop-less, push-less, skip-less}
+use Rattle.tally.specs.Stack.{some-left, none-left}
+use Rattle.queues.specs.Stacks.{Stacked, work, stack-start, stack-stopped, stack-end, stack-pop, stack-push, stack-skip, stack-room, pop-less, push-less, skip-less}
 use Rattle.queues.proofs.queue.Statement.{statement}
 use Rattle.queues.proofs.queue.Tie as tie
 
