@@ -16,10 +16,11 @@ use Rattle.build_block.specs.Sides.{Tidy, byNear, near-linear, centreAt,
 use Rattle.paper.specs.declared.Segment.{Segment}
 use Rattle.paper.specs.Words.{Axis, End, nearOf, farOf, stays, lefts, rights, queueWords, blockWordsTo, blockWords}
 
-module _ (rs : List Segment) (axis : Axis) (tidy : Tidy rs axis) where
-  abbrev pub header : ℤ → (stay left right : ℕ) → List ℤ
-  header centre stay left right = centre ∷ pos stay ∷ pos left ∷ pos right ∷ []
+-- the first four words
+abbrev pub header : ℤ → (stay left right : ℕ) → List ℤ
+header centre stay left right = centre ∷ pos stay ∷ pos left ∷ pos right ∷ []
 
+module _ (rs : List Segment) (axis : Axis) (tidy : Tidy rs axis) where
   -- the words of a block of a centre and three sides
   abbrev pub blockOf : ℤ → (stay left right : List ℕ) → List ℤ
   blockOf centre stay left right =

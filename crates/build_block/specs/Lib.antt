@@ -3,3 +3,5 @@ pub mod Sides
 pub mod Blocks
 pub mod Cutting
 pub mod Separating
+pub mod Dividing
+pub mod Spreading
