@@ -35,7 +35,7 @@ module _ (rs : List Segment) (axis : Axis) where
     pub lefts-in : win (8 * r .stay) (r .cut - r .stay) ys ≡ map pos (lefts rs axis (centreAt rs axis ps) ps)
     pub rights-in : win (8 * r .cut) (length ps - r .cut) ys ≡ map pos (rights rs axis (centreAt rs axis ps) ps)
 
-  module _ (tidy : Tidy rs axis) (goes : ℤ → Bool) (m cut stay : ℕ) (centre : ℤ) (xs y₁ y₂ y₃ : List ℤ) where
+  module _ (tidy : Tidy rs axis) (goes : ℤ → Bool) (m cut stay : ℕ) (centre : ℤ) (xs y₁ y₂ : List ℤ) where
     abbrev ps : List ℕ
     ps = named (win 0 m xs)
 
@@ -49,8 +49,7 @@ module _ (rs : List Segment) (axis : Axis) where
         (middle : centre ≡ nearOf rs axis (getD ps (m / 2) 0)) (agrees : (p : ℕ) → goes (pos p) ≡ ltZ (farOf rs axis p) centre)
         (found : Cut rs axis centre ps (m / 2 + 1) cut)
         (moved : y₁ ≡ put (8 * cut) (win cut (m - cut) xs) xs)
-        (parting : y₂ ≡ parted goes (win 0 cut y₁) 0 cut y₁) (staying : stay ≡ length (filter (λ z. not (goes z)) (win 0 cut y₁)))
-        (carried : y₃ ≡ put (8 * stay) (win cut (cut - stay) y₂) y₂) where
+        (parting : y₂ ≡ parted goes (win 0 cut y₁) 0 cut y₁) (staying : stay ≡ length (filter (λ z. not (goes z)) (win 0 cut y₁))) where
       size : length ps ≡ m
       size = length-map (win 0 m xs) toNat ∙ length-win 0 m xs (omega arith)
 
@@ -159,35 +158,36 @@ module _ (rs : List Segment) (axis : Axis) where
       K-long : length K ≡ cut - stay
       K-long = ap length K-is ∙ L-long
 
-      pub divided : Divided ps y₃ (record { centre = centre; stay = stay; cut = cut })
-      divided = record {
-        centre = centre-is;
-        stay = stay-is;
-        left = counts .3;
-        right = ap (λ n. n - cut) size ∙ rights-are;
-        some = counts .0;
-        least = counts .1;
-        most = omega (arith, counts, size);
-        stays-in =
-            ap (win 0 stay) carried
-            ∙ win-put-left 0 stay (8 * stay) K y₂ (omega arith) (omega (arith, counts, long₂))
-            ∙ ap (win 0 stay) is₂
-            ∙ win-put-left 0 stay cut L y₀ (omega (arith, counts)) (omega (arith, counts, long₀))
-            ∙ win-put-at 0 stay S y₁ S-long (omega arith)
-            ∙ S-is;
-        lefts-in =
-            ap (win (8 * stay) (cut - stay)) carried
-            ∙ win-put-at (8 * stay) (cut - stay) K y₂ K-long (omega (arith, counts, long₂))
-            ∙ K-is
-            ∙ L-is;
-        rights-in =
-            ap (λ n. win (8 * cut) (n - cut) y₃) size
-            ∙ ap (win (8 * cut) (m - cut)) carried
-            ∙ win-put-right (8 * cut) (m - cut) (8 * stay) K y₂ (omega (arith, K-long, counts)) (omega (arith, K-long, counts, long₂))
-            ∙ ap (win (8 * cut) (m - cut)) is₂
-            ∙ win-put-right (8 * cut) (m - cut) cut L y₀ (omega (arith, L-long, counts)) (omega (arith, L-long, counts, long₀))
-            ∙ win-put-right (8 * cut) (m - cut) 0 S y₁ (omega (arith, S-long, counts)) (omega (arith, S-long, counts, long₁))
-            ∙ ap (win (8 * cut) (m - cut)) moved
-            ∙ win-put-at (8 * cut) (m - cut) (win cut (m - cut) xs) xs R-long (omega (arith, counts))
-            ∙ R-is;
-      }
+      module _ (y₃ : List ℤ) (carried : y₃ ≡ put (8 * stay) (win cut (cut - stay) y₂) y₂) where
+        pub divided : Divided ps y₃ (record { centre = centre; stay = stay; cut = cut })
+        divided = record {
+          centre = centre-is;
+          stay = stay-is;
+          left = counts .3;
+          right = ap (λ n. n - cut) size ∙ rights-are;
+          some = counts .0;
+          least = counts .1;
+          most = omega (arith, counts, size);
+          stays-in =
+              ap (win 0 stay) carried
+              ∙ win-put-left 0 stay (8 * stay) K y₂ (omega arith) (omega (arith, counts, long₂))
+              ∙ ap (win 0 stay) is₂
+              ∙ win-put-left 0 stay cut L y₀ (omega (arith, counts)) (omega (arith, counts, long₀))
+              ∙ win-put-at 0 stay S y₁ S-long (omega arith)
+              ∙ S-is;
+          lefts-in =
+              ap (win (8 * stay) (cut - stay)) carried
+              ∙ win-put-at (8 * stay) (cut - stay) K y₂ K-long (omega (arith, counts, long₂))
+              ∙ K-is
+              ∙ L-is;
+          rights-in =
+              ap (λ n. win (8 * cut) (n - cut) y₃) size
+              ∙ ap (win (8 * cut) (m - cut)) carried
+              ∙ win-put-right (8 * cut) (m - cut) (8 * stay) K y₂ (omega (arith, K-long, counts)) (omega (arith, K-long, counts, long₂))
+              ∙ ap (win (8 * cut) (m - cut)) is₂
+              ∙ win-put-right (8 * cut) (m - cut) cut L y₀ (omega (arith, L-long, counts)) (omega (arith, L-long, counts, long₀))
+              ∙ win-put-right (8 * cut) (m - cut) 0 S y₁ (omega (arith, S-long, counts)) (omega (arith, S-long, counts, long₁))
+              ∙ ap (win (8 * cut) (m - cut)) moved
+              ∙ win-put-at (8 * cut) (m - cut) (win cut (m - cut) xs) xs R-long (omega (arith, counts))
+              ∙ R-is;
+        }

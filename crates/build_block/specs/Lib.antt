@@ -5,3 +5,4 @@ pub mod Cutting
 pub mod Separating
 pub mod Dividing
 pub mod Spreading
+pub mod Joining

@@ -12,11 +12,20 @@ ghost use Rattle.paper.specs.Words.{blockWords};
 ghost use Rattle.records.specs.Records.{Readable, recordsOf, wordAt};
 ghost use Rattle.build_queue.specs.Ends.{axisOf};
 ghost use Rattle.build_queue.specs.Runs.{named, Stands};
+ghost use Rattle.build_queue.specs.Parting.{By};
 ghost use Rattle.build_block.specs.Sides.{Tidy, Nearer};
 ghost use Rattle.build_block.specs.Cutting.{Low, Cut};
 ghost use Rattle.build_block.specs.Separating.{parted};
+ghost use Rattle.build_block.specs.Blocks.{header};
 ghost use Rattle.build_block.specs.Dividing.{Divided};
+ghost use Rattle.build_block.specs.Spreading.{Spread};
+ghost use Rattle.build_block.specs.Joining.{byLevel, Prepared, queued};
 use build_queue::Ends;
+use build_queue::queue;
+use ordering::sort;
+use records::Keys;
+use records::as_word;
+use records::clear;
 use records::field;
 use records::move_up;
 
@@ -113,4 +122,88 @@ fn divide(table: &[i32], ends: Ends, part: &mut [i32], m: usize) -> Division
         stay: stay,
         cut: cut,
     }
+}
+
+// The first four words of a block.
+fn put_header(part: &mut [i32], centre: i32, stay: usize, left: usize, right: usize)
+    requires { ⌜ (4 ≤ length (now part)) × (stay < 2147483648) × (left < 2147483648) × (right < 2147483648) ⌝ }
+    ensures { λ _. ⌜ now (part .exit) ≡ put 0 (header centre stay left right) (now (part .entry)) ⌝ }
+{
+    part[0] = centre;
+    part[1] = as_word(stay);
+    part[2] = as_word(left);
+    part[3] = as_word(right);
+}
+
+// From a division of m positions: the header, those that stay by (level, position) at the fronts of both queues' words, and the zeros.
+fn spread(table: &[i32], ends: Ends, part: &mut [i32], m: usize, division: Division)
+    requires { ⌜ Readable (now table) (ends .d) ⌝ }
+    requires { ⌜ (0 < division .stay) × (division .stay ≤ division .cut) × (division .cut ≤ m) × (length (now part) ≡ 8 * m) × (m < 2147483648) ⌝ }
+    ensures { λ _. ⌜ Spread (byLevel (now (table .entry)) ends (win 0 (division .stay) (now (part .entry)))) (division .centre) m (division .stay) (division .cut) (now (part .entry)) (now (part .exit)) ⌝ }
+{
+    let d = ends.d;
+    let level = ends.level;
+    let stay = division.stay;
+    let cut = division.cut;
+    sort(
+        table,
+        Keys {
+            key: level,
+            level: level,
+            high: false,
+            d: d,
+        },
+        part,
+        0,
+        stay,
+        stay,
+    );
+    move_up(part, 0, 4 + 2 * stay, stay);
+    move_up(part, 0, 4, stay);
+    clear(part, 4 + 4 * stay, 8 * stay);
+    put_header(part, division.centre, stay, cut - stay, m - cut);
+}
+
+// All of a block but its queues and its two blocks, whose positions stand at the fronts of their words.
+fn prepare(table: &[i32], ends: Ends, part: &mut [i32], m: usize) -> Division
+    requires { ⌜ Readable (now table) (ends .d) ⌝ }
+    requires { ⌜ Tidy (recordsOf (ends .d) (now table)) (axisOf ends) ⌝ }
+    requires { ⌜ (0 < m) × (length (now part) ≡ 8 * m) × (m < 2147483648) × Stands (Nearer (recordsOf (ends .d) (now table)) (axisOf ends)) (win 0 m (now part)) ⌝ }
+    ensures { λ r. ⌜ Prepared (recordsOf (ends .d) (now (table .entry))) (axisOf ends) (named (win 0 m (now (part .entry)))) (now (part .exit)) r ⌝ }
+{
+    let division = divide(table, ends, part, m);
+    spread(table, ends, part, m, division);
+    division
+}
+
+// Both queues of a block in which `stay` positions stay, each built in a part lent on.
+fn queues(table: &[i32], ends: Ends, part: &mut [i32], stay: usize)
+    requires { ⌜ Readable (now table) (ends .d) ⌝ }
+    requires { ⌜ (4 + 4 * stay ≤ length (now part)) × Stands (By (recordsOf (ends .d) (now table)) (axisOf ends)) (win 4 stay (now part)) × Stands (By (recordsOf (ends .d) (now table)) (axisOf ends)) (win (4 + 2 * stay) stay (now part)) ⌝ }
+    ensures { λ _. ⌜ now (part .exit) ≡ queued (recordsOf (ends .d) (now (table .entry))) (axisOf ends) stay (now (part .entry)) ⌝ }
+{
+    let half = 4 + 2 * stay;
+    let end = 4 + 4 * stay;
+    queue(table, ends, false, &mut part[4..half], stay);
+    queue(table, ends, true, &mut part[half..end], stay);
+}
+
+// The words of a block over the m positions at the front of the part, each of whose two blocks is built in a part lent on.
+pub fn block(table: &[i32], ends: Ends, part: &mut [i32], m: usize)
+    requires { ⌜ Readable (now table) (ends .d) ⌝ }
+    requires { ⌜ Tidy (recordsOf (ends .d) (now table)) (axisOf ends) ⌝ }
+    requires { ⌜ (length (now part) ≡ 8 * m) × (m < 2147483648) × Stands (Nearer (recordsOf (ends .d) (now table)) (axisOf ends)) (win 0 m (now part)) ⌝ }
+    ensures { λ _. ⌜ now (part .exit) ≡ blockWords (recordsOf (ends .d) (now (table .entry))) (axisOf ends) (named (win 0 m (now (part .entry)))) ⌝ }
+{
+    if m == 0 {
+        return;
+    }
+    let division = prepare(table, ends, part, m);
+    let stay = division.stay;
+    let cut = division.cut;
+    queues(table, ends, part, stay);
+    let left = 8 * stay;
+    let right = 8 * cut;
+    block(table, ends, &mut part[left..right], cut - stay);
+    block(table, ends, &mut part[right..], m - cut);
 }

@@ -1,0 +1,78 @@
+-- `build_block::put_header` meets its contract. Assumes nothing.
+use borrow.Author.Needs.{needs}
+use mathlib.Core.Path.{_≡_, refl}
+use mathlib.Core.List.{List, [], _∷_}
+use Prim.Native.Nat.{_≤_}
+use native.Mathlib.Omega.{arith}
+use lib.IntN.{ℤ}
+use lib.ListN.{length, set, length-set}
+use mir.Syntax.{w32}
+use mir.ValLaws.{toZ-ofZ}
+use Rattle.whole.specs.Whole.{kept}
+use Rattle.lists.specs.Parts.{put}
+use Rattle.build_block.proofs.put_header.Statement.{statement}
+use Rattle.build_block.proofs.put_header.Tie as tie
+
+four : (s : List ℤ) (x y z w : ℤ) → 4 ≤ length s → set (set (set (set s 0 x) 1 y) 2 z) 3 w ≡ put 0 (x ∷ y ∷ z ∷ w ∷ []) s
+unfolding put
+four [] x y z w h = absurd (omega arith)
+four (a ∷ []) x y z w h = absurd (omega arith)
+four (a ∷ b ∷ []) x y z w h = absurd (omega arith)
+four (a ∷ b ∷ c ∷ []) x y z w h = absurd (omega arith)
+four (a ∷ b ∷ c ∷ d ∷ s) x y z w h = refl
+
+slice-set-from-centre : tie.Need-slice-set-from-centre
+slice-set-from-centre c = search needs
+
+as-word-requires : tie.Need-as-word-requires
+as-word-requires c κs = search needs
+
+slice-set-from-part : tie.Need-slice-set-from-part
+slice-set-from-part c = simp length-set (omega arith)
+
+as-word-requires-2 : tie.Need-as-word-requires-2
+as-word-requires-2 c κs = search needs
+
+slice-set-from-part-2 : tie.Need-slice-set-from-part-2
+slice-set-from-part-2 c = simp length-set (omega arith)
+
+as-word-requires-3 : tie.Need-as-word-requires-3
+as-word-requires-3 c κs = search needs
+
+slice-set-from-part-3 : tie.Need-slice-set-from-part-3
+slice-set-from-part-3 c = search needs
+
+same-length : tie.Need-same-length
+same-length c = search needs
+
+returns : tie.Need-returns
+returns c =
+    let s = c .before .before .before in
+    let a = s .args in
+    let w₁ = c .before .before .as-word in
+    let w₂ = c .before .as-word2 in
+    let w₃ = c .as-word3 in
+    rw (
+      toZ-ofZ w32 (a .centre) (s .fits .centre),
+      kept w32 (w₁ .result) (w₁ .ok),
+      w₁ .ensures,
+      kept w32 (w₂ .result) (w₂ .ok),
+      w₂ .ensures,
+      kept w32 (w₃ .result) (w₃ .ok),
+      w₃ .ensures,
+    )
+    (four (a .part .now) _ _ _ _ (s .pre .0))
+
+pub put-header-spec : {M : Type 1} → statement M
+put-header-spec =
+    tie.close
+    (tie.spec
+    slice-set-from-centre
+    as-word-requires
+    slice-set-from-part
+    as-word-requires-2
+    slice-set-from-part-2
+    as-word-requires-3
+    slice-set-from-part-3
+    same-length
+    returns)
