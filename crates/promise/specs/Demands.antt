@@ -3,7 +3,7 @@
 use mathlib.Core.Path.{_≡_, refl, sym, ap, _∙_, subst}
 use mathlib.Core.Bool.{true, false}
 use mathlib.Core.List.{List}
-use Prim.Native.Nat.{ℕ, _≤_}
+use Prim.Native.Nat.{ℕ, suc, _≤_}
 use lib.IntN.{ℤ, pos}
 use lib.ListN.{length, drop, length-map}
 use lib.Dec.{le→leb}
@@ -54,3 +54,11 @@ build-promise table d index e =
     let a = build-accepts table d index e in
     let words = indexWords (firstNumber (d .kind) (d .lower)) (segmentsOf d table) in
     (record { accepted = a .straight; rest = drop (length words) index; words = ap (λ (r : Result). r .1) (build-done table d index e) }, a .lower)
+
+-- both together: from a builder that is done to what a query of its words promises
+pub build-then-query : (table : List ℤ) (d : Descriptor) (index : List ℤ) (w : Window) (numbers : List ℤ)
+    → built table d index .0 .number ≡ pos 0 → badWindow w .given ≡ false → length (segmentsOf d table) ≤ length numbers
+    → QueryPromise (firstNumber (d .kind) (d .lower)) (segmentsOf d table) w (queried (built table d index .1) w numbers)
+build-then-query table d index w numbers e good room =
+    let i = build-promise table d index e in
+    query-promise (firstNumber (d .kind) (d .lower)) (segmentsOf d table) w (built table d index .1) numbers (i .0) (i .1) good room

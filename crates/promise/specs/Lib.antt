@@ -11,3 +11,4 @@ pub mod Groups
 pub mod Whole
 pub mod Index
 pub mod Calls
+pub mod Instance
