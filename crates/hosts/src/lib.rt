@@ -1,0 +1,166 @@
+// What C hosts call: three answers on plain numbers, a refusal as its negative, and the scan on lent buffers. Each is a few lines over the crates below.
+ghost use mathlib.Core.Path.{_≡_};
+ghost use Rattle.paper.specs.Answers.{badPlace};
+ghost use Rattle.paper.specs.Hosts.{hostCell, hostWords, HostMeet};
+ghost use Rattle.paper.specs.Results.{Scanned};
+ghost use Rattle.hosts.specs.Answered.{cellAnswer, replyOf};
+use paper::Descriptor;
+use paper::Segment;
+use paper::Window;
+
+// What a call on lent buffers returns to C: the answer number, and the count, visits and position that go with it.
+#[repr(C)]
+pub struct HostReply {
+    pub number: i64,
+    pub count: i64,
+    pub visits: i64,
+    pub position: i64,
+}
+
+// ---- the cell of a position and coordinate: 3, 4, 11
+
+// Answer 11: no such position or coordinate.
+fn bad_place(n: i64, position: i64, coordinate: i64) -> bool
+    ensures { λ r. ⌜ r ≡ badPlace n position coordinate .given ⌝ }
+{
+    (position < 0) | (n <= position) | !((0 <= coordinate) & (coordinate <= 3))
+}
+
+fn cell_answer(length: i64, descriptor: Descriptor, position: i64, coordinate: i64) -> i64
+    ensures { λ r. ⌜ r ≡ cellAnswer length descriptor position coordinate ⌝ }
+{
+    if table::bad_extent(descriptor.extent) {
+        return -3;
+    }
+    if table::bad_cells(length, descriptor) {
+        return -4;
+    }
+    if bad_place(descriptor.extent, position, coordinate) {
+        return -11;
+    }
+    table::cell(descriptor, whole::index(position), whole::index(coordinate))
+}
+
+#[no_mangle]
+pub extern "C" fn kalinosz_cell(
+    length: i64,
+    base: i64,
+    n: i64,
+    segment_stride: i64,
+    coordinate_stride: i64,
+    position: i64,
+    coordinate: i64,
+) -> i64
+    ensures { λ r. ⌜ r ≡ hostCell length base n «segment_stride» «coordinate_stride» position coordinate ⌝ }
+{
+    let descriptor = Descriptor {
+        kind: 1,
+        base: base,
+        lower: 0,
+        extent: n,
+        segment_stride: segment_stride,
+        coordinate_stride: coordinate_stride,
+    };
+    cell_answer(length, descriptor, position, coordinate)
+}
+
+// ---- W(n): 3
+
+#[no_mangle]
+pub extern "C" fn kalinosz_words(n: i64) -> i64
+    ensures { λ r. ⌜ r ≡ hostWords n ⌝ }
+{
+    if table::bad_extent(n) {
+        return -3;
+    }
+    whole::count(table::words(whole::index(n)))
+}
+
+// ---- whether one segment meets one window, 1 or 0: 8, 5
+
+fn meet_answer(segment: Segment, window: Window) -> i64
+    ensures { λ r. ⌜ HostMeet segment window r ⌝ }
+{
+    if meeting::bad_window(window) {
+        return -8;
+    }
+    if table::far_off(segment) {
+        return -5;
+    }
+    if meeting::meets(segment, window) {
+        return 1;
+    }
+    0
+}
+
+#[no_mangle]
+pub extern "C" fn kalinosz_meets(
+    x1: i64,
+    y1: i64,
+    x2: i64,
+    y2: i64,
+    a: i64,
+    b: i64,
+    c: i64,
+    d: i64,
+) -> i64
+    ensures { λ r. ⌜ HostMeet (record { x1 = x1; y1 = y1; x2 = x2; y2 = y2 }) (record { a = a; b = b; c = c; d = d }) r ⌝ }
+{
+    let segment = Segment {
+        x1: x1,
+        y1: y1,
+        x2: x2,
+        y2: y2,
+    };
+    let window = Window {
+        a: a,
+        b: b,
+        c: c,
+        d: d,
+    };
+    meet_answer(segment, window)
+}
+
+// ---- the scan on lent buffers: each array is followed by its count of elements
+
+#[no_mangle]
+pub extern "C" fn kalinosz_scan(
+    table: &[i32],
+    kind: i64,
+    base: i64,
+    lower: i64,
+    n: i64,
+    segment_stride: i64,
+    coordinate_stride: i64,
+    a: i64,
+    b: i64,
+    c: i64,
+    d: i64,
+    numbers: &mut [i32],
+) -> HostReply
+    ensures { λ r. ⌜ Scanned (now (table .entry))
+        (record { kind = kind; base = base; lower = lower; extent = n; «segment_stride» = «segment_stride»; «coordinate_stride» = «coordinate_stride» })
+        (record { a = a; b = b; c = c; d = d }) (now (numbers .entry)) (replyOf r, now (numbers .exit)) ⌝ }
+{
+    let descriptor = Descriptor {
+        kind: kind,
+        base: base,
+        lower: lower,
+        extent: n,
+        segment_stride: segment_stride,
+        coordinate_stride: coordinate_stride,
+    };
+    let window = Window {
+        a: a,
+        b: b,
+        c: c,
+        d: d,
+    };
+    let reply = marks::scan(table, descriptor, window, numbers);
+    HostReply {
+        number: reply.number,
+        count: reply.count,
+        visits: reply.visits,
+        position: reply.position,
+    }
+}
