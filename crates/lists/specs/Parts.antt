@@ -7,7 +7,7 @@ use Prim.Native.Nat.{ℕ, suc, _+_, _-_, _≤_, _<_}
 use native.Mathlib.Numerals.{add-one}
 use native.Mathlib.Nat.{add-zero}
 use native.Mathlib.Omega.{arith}
-use lib.ListN.{length, take, drop, getD, set, length-append, length-take, length-drop, take-append-drop, List·getD-append}
+use lib.ListN.{length, take, drop, getD, set, length-append, length-take, length-drop, take-append-drop, drop-of-length-le, List·getD-append}
 use lib.Seq.{length-take-le, take-all, take-at, drop-at, take-append-seam, drop-append-seam, take-append-le, drop-append-le, drop-append-add, drop-cons, take-suc, append-snoc, set-at, set-split, drop-drop, take-add, take-take, getD-take, take-suc-set, drop-set-lt}
 use borrow.Rule.Slice.PartMut.{putMid}
 
@@ -258,6 +258,11 @@ module _ {ℓ} {A : Type ℓ} where
   pub put-self : (a n : ℕ) (xs : List A) → a + n ≤ length xs → put a (win a n xs) xs ≡ xs
   unfolding put
   put-self a n xs h = ap (λ k. take a xs ++ (win a n xs ++ drop (a + k) xs)) (length-win a n xs h) ∙ sym (apart a n xs)
+
+  -- all of a list replaced
+  pub put-all : (v s : List A) → length v ≡ length s → put 0 v s ≡ v
+  unfolding put
+  put-all v s h = ap (λ l. v ++ l) (drop-of-length-le s {i = 0 + length v} (omega arith)) ∙ append-nil v
 
   -- two parts side by side, replaced one after the other
   pub put-join : (a : ℕ) (v w xs : List A) → a + (length v + length w) ≤ length xs → put (a + length v) w (put a v xs) ≡ put a (v ++ w) xs
