@@ -11,7 +11,7 @@ use lib.Dec.{T, T-not, eqb, eqb→eq, eqb-refl, ltb, ltb→lt, nltb→le}
 use Rattle.lists.specs.Plain.{positions, joined, count}
 use Rattle.lists.specs.Tests.{gate}
 use Rattle.lists.specs.Every.{All, all-append}
-use Rattle.lists.specs.Counting.{count-append, count-cons}
+use Rattle.lists.specs.Counting.{count-append}
 
 -- ---- positions
 

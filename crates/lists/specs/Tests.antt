@@ -177,10 +177,6 @@ pub gate-yes : (b : Bool) (n : ℕ) → T b → gate b n ≡ n
 gate-yes true n h = refl
 gate-yes false n h = absurd h
 
-pub gate-no : (b : Bool) (n : ℕ) → T (not b) → gate b n ≡ 0
-gate-no true n h = absurd h
-gate-no false n h = refl
-
 -- what is counted as 0 fails
 pub gate-closed : (b : Bool) → gate b 1 ≡ 0 → T (not b)
 gate-closed true e = absurd (omega arith)

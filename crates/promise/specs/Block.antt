@@ -1,6 +1,6 @@
 -- The blocks, over either axis: on the words of a list of positions the walk is `events` of that list; what these list, and how many they visit.
 -- Use: `block-walk` for the words; `block-lists`, `block-visits`, `block-clean` for the events. `tidy` says that near ≤ far, as records have it.
-use mathlib.Core.Path.{_≡_, refl, sym, ap, ap₂, _∙_, subst}
+use mathlib.Core.Path.{_≡_, refl, sym, ap₂, _∙_, subst}
 use mathlib.Core.List.{List, [], _∷_, _++_}
 use mathlib.Core.Bool.{Bool, true, false, not, _&&_, cond}
 use Prim.Native.Nat.{ℕ, zero, suc, _+_, _-_, _*_, _/_, _^_, _≤_, _<_}
@@ -12,7 +12,7 @@ use lib.Signed.{leZ, ltZ}
 use lib.Dec.{T, ltb, leb, le→leb}
 use Rattle.lists.specs.Plain.{within, count, by, sort}
 use Rattle.lists.specs.Tests.{cases, gate, fail-right, fail-left, and-left, and-right, fst-of, snd-of, is-true}
-use Rattle.lists.specs.Orders.{ℤ-order, fail-down, fail-up, ltZ-not, ltb-linear, by-order, by-key}
+use Rattle.lists.specs.Orders.{ℤ-order, fail-down, ltZ-not, ltb-linear, by-order, by-key}
 use Rattle.lists.specs.Every.{All, all-map, all-any, filter-holds, filter-keeps, sorted-map}
 use Rattle.lists.specs.Counting.{count-nil, count-cons, count-append, count-none, count-same, count-length, count-mono, filter-count, filter-length}
 use Rattle.lists.specs.Sorting.{sort-count, sort-length, sort-sorted}

@@ -2,14 +2,14 @@
 -- of a query over an index (`query-done`).
 -- Use: cite Demands. No definition of the words or the walk has to be opened for it.
 use mathlib.Core.Path.{_≡_, refl, sym, ap, ap₂, _∙_, subst}
-use mathlib.Core.List.{List, [], _∷_, _++_, map}
-use mathlib.Core.Bool.{Bool, true, false, not, _&&_, _||_, cond}
-use Prim.Native.Nat.{ℕ, zero, suc, _+_, _≤_, _<_}
+use mathlib.Core.List.{List, [], _∷_, map}
+use mathlib.Core.Bool.{Bool, true, false, not, _||_, cond}
+use Prim.Native.Nat.{ℕ, zero, _+_, _≤_}
 use native.Mathlib.Omega.{arith}
-use lib.ListN.{length, take, drop, length-map, length-append}
+use lib.ListN.{length, drop, length-map, length-append}
 use lib.Seq.{take-at}
 use lib.IntN.{ℤ, pos, negsuc, _+ℤ_}
-use lib.Signed.{leZ, ltZ}
+use lib.Signed.{ltZ}
 use lib.Dec.{T, not-T, eqb, eqb→eq, eqb-refl, ltb, leb, le→leb, leb→le}
 use borrow.Author.Tests.{le-ltb}
 use Rattle.whole.specs.Whole.{of, #, _⊕_, whole}

@@ -1,9 +1,9 @@
 -- The promises, proved: what `paper`'s Demands states holds of every index, whatever its segments, crossing or not, equal or not.
 -- Demand 2 is in `once` and `groups`, demand 3 in `few`; `ends` says that the walk is never stopped. `low-ends` (LowEnds) has the first group by itself.
-use mathlib.Core.Path.{_≡_, refl, sym, ap, _∙_, subst}
+use mathlib.Core.Path.{_≡_, refl, sym, ap, subst}
 use mathlib.Core.Bool.{true, false}
 use mathlib.Core.List.{List}
-use Prim.Native.Nat.{ℕ, suc, _≤_}
+use Prim.Native.Nat.{_≤_}
 use lib.IntN.{ℤ, pos}
 use lib.ListN.{length, drop, length-map}
 use lib.Dec.{le→leb}

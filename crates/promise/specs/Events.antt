@@ -4,7 +4,7 @@
 use mathlib.Core.Path.{_≡_, refl, sym, ap, ap₂, _∙_}
 use mathlib.Core.List.{List, [], _∷_, _++_, append-assoc, append-nil}
 use mathlib.Core.Bool.{Bool, true, false}
-use Prim.Native.Nat.{ℕ, zero, suc, _+_, _-_, _≤_, _<_}
+use Prim.Native.Nat.{ℕ, _+_, _-_, _≤_, _<_}
 use native.Mathlib.Nat.{add-zero}
 use native.Mathlib.Omega.{arith}
 use lib.ListN.{length, length-append}
@@ -13,7 +13,7 @@ use lib.Dec.{ltb, lt→ltb, leb, le→leb}
 use Rattle.lists.specs.Plain.{count}
 use Rattle.lists.specs.Tests.{is-true}
 use Rattle.lists.specs.Counting.{count-length}
-use Rattle.paper.specs.Walk.{Kind, Event, visit, due, spoiled, asPosition, asCount, Walked, walked, step, run}
+use Rattle.paper.specs.Walk.{Event, visit, due, spoiled, asPosition, asCount, walked, step, run}
 
 abbrev pub isDue : (ℕ → Bool) → Event → Bool
 isDue q (visit k i) = false

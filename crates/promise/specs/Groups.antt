@@ -1,19 +1,19 @@
 -- The three groups of document 01: a segment is in at most one of them, and a record that is straight and rises meets the window exactly when it is in one.
 -- Use: `one-group` counts, for any window; `group-meets` and `meets-group` go between the groups and Meeting; `low-rises`, `meets-low` for records.
-use mathlib.Core.Path.{_≡_, refl, sym, ap, ap₂, _∙_, subst}
+use mathlib.Core.Path.{_≡_, refl, sym, ap₂, subst}
 use mathlib.Core.Logic.{_↔_, _⊎_, inl, inr}
 use mathlib.Core.Bool.{Bool, true, false, not, _&&_, _||_}
-use Prim.Native.Nat.{ℕ, _+_}
+use Prim.Native.Nat.{_+_}
 use lib.IntN.{ℤ, pos, _+ℤ_, _-ℤ_, _*ℤ_}
 use lib.Signed.{leZ, ltZ, _≤ℤ_, _<ℤ_, leZ-yes, ltZ-yes}
-use lib.Dec.{T, T-not, not-T}
+use lib.Dec.{T, T-not}
 use Rattle.whole.specs.Whole.{of, #, _⊕_, _⊖_, _⊗_, whole, times, times<}
 use Rattle.whole.specs.Order.{lt-or-le}
 use Rattle.lists.specs.Plain.{within, same}
 use Rattle.lists.specs.Tests.{cases, gate, both, fst-of, snd-of, or-in, or-more, or-cases, and-comm, by-test, holds, fails}
 use Rattle.lists.specs.Orders.{ℤ-order, ltZ-not, same-equal}
 use Rattle.paper.specs.Answers.{slanted}
-use Rattle.paper.specs.Words.{Axis, horizontal, vertical, isHorizontal, turned, lowFirst}
+use Rattle.paper.specs.Words.{horizontal, vertical, isHorizontal, turned, lowFirst}
 use Rattle.paper.specs.Meeting.{Between, Meets}
 use Rattle.paper.specs.Demands.{lowEndInside, crosses}
 use Rattle.paper.specs.declared.Segment.{Segment}

@@ -1,7 +1,7 @@
 -- Words that are an index of segments: their parts stand at their places (`placed`), so the walk over them is known (`index-walks`, for any edges of the
 -- window); and from the groups to demand 2 (`groups-once`, where the edges are in order).
 -- Use: cite Demands, which puts these together.
-use mathlib.Core.Path.{_≡_, refl, sym, ap, ap₂, _∙_, subst}
+use mathlib.Core.Path.{_≡_, refl, sym, ap, _∙_, subst}
 use mathlib.Core.List.{List, [], _∷_, _++_, map}
 use mathlib.Core.Bool.{Bool, true, false, not, _&&_, _||_}
 use Prim.Native.Nat.{ℕ, zero, suc, _+_, _-_, _*_, _≤_, _<_}
@@ -19,13 +19,13 @@ use Rattle.lists.specs.Choosing.{count-chosen}
 use Rattle.paper.specs.Descriptor.{at}
 use Rattle.paper.specs.Meeting.{Meets}
 use Rattle.paper.specs.Answers.{positionsOf, answerAt, slanted, badSlant, badWindow}
-use Rattle.paper.specs.Words.{D, W, recordsAt, levelsAt, blocksAt, lowFirst, isHorizontal, horizontals, verticals, recordOf, levelsWords, horizontal, vertical, blockWords, headerWords, indexWords}
-use Rattle.paper.specs.Walk.{Event, word, recordAt, sizeIn, Walked, walked, walkOf}
+use Rattle.paper.specs.Words.{W, recordsAt, levelsAt, blocksAt, lowFirst, isHorizontal, horizontals, verticals, recordOf, levelsWords, horizontal, vertical, blockWords, headerWords, indexWords}
+use Rattle.paper.specs.Walk.{Event, word, Walked, walked, walkOf}
 use Rattle.paper.specs.Demands.{ListsOnce, Straight, IndexOf, mostVisits, lowEndInside, Group, InGroups}
 use Rattle.paper.specs.declared.Segment.{Segment}
 use Rattle.paper.specs.declared.Window.{Window}
 use Rattle.promise.specs.Places.{At, at-append, at-self}
-use Rattle.promise.specs.Events.{isDue, visitsOf, duesOf, dues, dues-count}
+use Rattle.promise.specs.Events.{isDue, visitsOf, dues, dues-count}
 use Rattle.promise.specs.Nodes.{levels-length}
 use Rattle.promise.specs.Block.{block-length}
 use Rattle.promise.specs.Groups.{Rises, low-rises, meets-low, isAcross, isAlong, inGroup, one-group, group-meets, meets-group}

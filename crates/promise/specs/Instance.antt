@@ -1,16 +1,14 @@
 -- The theorems at one table, so that nobody need take it on trust that they speak of something: four segments, one of them turned, two of them equal,
 -- two that cross. The builder accepts the table, and the walk that the theorems speak of is computed beside them.
 use mathlib.Core.Path.{_≡_, refl}
-use mathlib.Core.Bool.{false}
 use mathlib.Core.List.{List, [], _∷_, _++_}
 use Prim.Native.Nat.{ℕ}
 use native.Mathlib.Omega.{arith}
 use lib.IntN.{ℤ, pos}
 use Rattle.lists.specs.Plain.{digitsTo, positions, filter, count, any, last, joined, insert, sort}
-use Rattle.paper.specs.Answers.{badWindow}
 use Rattle.paper.specs.Words.{nodes, levelWords, levelsWords, queueWordsTo, blockWordsTo, indexWords}
-use Rattle.paper.specs.Walk.{searchTo, slotsWalk, nodeAt, nodeWalk, queueAt, queueWalkTo, blockAt, blockWalkTo, walk, step, run, Walked, walked, walkOf}
-use Rattle.paper.specs.Demands.{Straight, IndexOf, Asked, mostVisits}
+use Rattle.paper.specs.Walk.{searchTo, slotsWalk, nodeAt, nodeWalk, queueAt, queueWalkTo, blockAt, blockWalkTo, walk, step, run, walked, walkOf}
+use Rattle.paper.specs.Demands.{Straight, Asked, mostVisits}
 use Rattle.paper.specs.declared.Segment.{Segment}
 use Rattle.paper.specs.declared.Window.{Window}
 use Rattle.promise.specs.Demands.{index-demands}

@@ -10,7 +10,7 @@ use lib.ListN.{length, drop, getD, length-drop}
 use lib.IntN.{ℤ, pos}
 use lib.Signed.{leZ, ltZ}
 use lib.Dec.{T, ltb, eqb, eqb→eq}
-use Rattle.lists.specs.Plain.{half, firstHalf, secondHalf, positions, count, by}
+use Rattle.lists.specs.Plain.{half, firstHalf, secondHalf, count, by}
 use Rattle.lists.specs.Tests.{cases}
 use Rattle.lists.specs.Every.{All, all-take, all-drop, all-getD}
 use Rattle.lists.specs.Counting.{count-nil, count-cons}
@@ -19,12 +19,12 @@ use Rattle.lists.specs.Sorting.{sort-all}
 use Rattle.lists.specs.Halves.{first-length, second-length}
 use Rattle.lists.specs.Searching.{found, looks, apart}
 use Rattle.paper.specs.Descriptor.{at}
-use Rattle.paper.specs.Words.{D, levelsAt, lowX, lowY, xOrder, countAt, nodes, slots, levelsWords}
-use Rattle.paper.specs.Walk.{Kind, atSearch, atNode, atSlot, Event, visit, due, when, asPosition, asCount, word, recordAt, searchTo, slotsWalk, byEnds, countWord, nodeAt, nodeWalk}
+use Rattle.paper.specs.Words.{D, levelsAt, lowY, xOrder, countAt, nodes, slots, levelsWords}
+use Rattle.paper.specs.Walk.{Kind, atSearch, atNode, atSlot, Event, visit, due, when, asCount, word, recordAt, searchTo, slotsWalk, byEnds, countWord, nodeAt, nodeWalk}
 use Rattle.paper.specs.declared.Segment.{Segment}
 use Rattle.paper.specs.declared.Window.{Window}
 use Rattle.promise.specs.Places.{At, asWords, at-get, at-drop, at-number}
-use Rattle.promise.specs.Events.{isVisit, position-read, count-read}
+use Rattle.promise.specs.Events.{position-read, count-read}
 use Rattle.promise.specs.Nodes.{Stands, root-stands, left-stands, right-stands, order-length, slots-length, slots-at, counts-at, run-at}
 use Rattle.promise.specs.Tree.{firstX, lastX, leftOf, slotEvents, events, Run, left-run, right-run, wide, left-full, left-sound}
 

@@ -1,12 +1,12 @@
 -- The first group of the walk by itself: search, nodes and slots list the positions whose low end is in the window, in at most L + 6D visits beside
 -- those that they list. It asks for records and levels at their places, and for nothing else: no blocks, no straight segments, no order of the edges.
 -- Use: `low-ends` is the theorem; the whole walk takes `lowEvents` and its laws.
-use mathlib.Core.Path.{_≡_, refl, sym, ap, ap₂, _∙_, subst}
+use mathlib.Core.Path.{_≡_, refl, sym, ap, _∙_, subst}
 use mathlib.Core.List.{List, _++_, append-assoc}
 use mathlib.Core.Bool.{Bool, true, false, not, _&&_}
-use Prim.Native.Nat.{ℕ, zero, suc, _+_, _-_, _*_, _^_, _≤_, _<_}
+use Prim.Native.Nat.{ℕ, suc, _+_, _-_, _*_, _≤_, _<_}
 use native.Mathlib.Omega.{arith}
-use lib.ListN.{length, getD}
+use lib.ListN.{length}
 use lib.IntN.{ℤ}
 use lib.Signed.{leZ}
 use lib.Dec.{eqb, ltb}
@@ -21,7 +21,7 @@ use Rattle.lists.specs.Digits.{digits-bound}
 use Rattle.lists.specs.Searching.{found, found-first, looks-le}
 use Rattle.paper.specs.Descriptor.{at}
 use Rattle.paper.specs.Words.{L, D, levelsAt, lowX, lowY, xOrder, slots, levelsWords}
-use Rattle.paper.specs.Walk.{Event, recordAt, search, searchTo, nodeWalk}
+use Rattle.paper.specs.Walk.{Event, recordAt, search, nodeWalk}
 use Rattle.paper.specs.Demands.{lowEndInside}
 use Rattle.paper.specs.declared.Segment.{Segment}
 use Rattle.paper.specs.declared.Window.{Window}

@@ -5,7 +5,7 @@ use mathlib.Core.Path.{_≡_, refl, sym, ap, ap₂, _∙_, subst}
 use mathlib.Core.List.{List, [], _∷_, _++_, map, map-append, map-id, append-assoc, append-nil}
 use mathlib.Core.Bool.{Bool, true, false, not, cond}
 use Prim.Native.Nat.{ℕ, zero, suc, _+_, _-_, _*_, _^_, _≤_, _<_}
-use native.Mathlib.Nat.{two-pow-succ, add-zero}
+use native.Mathlib.Nat.{two-pow-succ}
 use native.Mathlib.Omega.{arith}
 use lib.ListN.{length, length-append, length-map}
 use lib.IntN.{ℤ, pos}
@@ -17,7 +17,7 @@ use Rattle.lists.specs.Positions.{positions-length, joined-append, joined-one, 
 use Rattle.lists.specs.Sorting.{sort-length, sort-short}
 use Rattle.lists.specs.Halves.{first-length, second-length, halves-join}
 use Rattle.lists.specs.Digits.{digits-bound}
-use Rattle.paper.specs.Words.{D, levelsAt, lowX, lowY, xOrder, children, nodes, slots, countAt, counts, levelWords, levelsWords}
+use Rattle.paper.specs.Words.{D, levelsAt, lowY, xOrder, children, nodes, slots, countAt, counts, levelWords, levelsWords}
 use Rattle.paper.specs.declared.Segment.{Segment}
 use Rattle.promise.specs.Places.{At, asWords, at-cut, at-numbered}
 

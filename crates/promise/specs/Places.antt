@@ -1,6 +1,6 @@
 -- Words that stand at a place of an index: `At ws i l` says that the words of l stand in ws from word i on.
 -- Use: `at-self` gives it for the whole, `at-append`, `at-numbered` take it to parts, `at-get` reads one word of a list of positions. Assumes nothing.
-use mathlib.Core.Path.{_≡_, refl, sym, ap, subst, _∙_}
+use mathlib.Core.Path.{_≡_, refl, ap, subst, _∙_}
 use mathlib.Core.List.{List, [], _∷_, _++_, map, map-append}
 use mathlib.Core.Bool.{Bool, true, false, not}
 use Prim.Native.Nat.{ℕ, zero, suc, _+_, _*_, _≤_, _<_}

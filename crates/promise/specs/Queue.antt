@@ -8,7 +8,7 @@ use native.Mathlib.Nat.{two-pow-succ, zero-add}
 use native.Mathlib.Omega.{arith}
 use lib.ListN.{length, drop, length-append}
 use lib.IntN.{ℤ, pos}
-use lib.Signed.{leZ, ltZ}
+use lib.Signed.{leZ}
 use lib.Dec.{T, ltb}
 use Rattle.lists.specs.Plain.{half, firstHalf, secondHalf, count, by}
 use Rattle.lists.specs.Tests.{gate, gate-le, gate-skip, gate-zero, fail-right, fail-left, by-flag, yes-not, not-not, both}

@@ -1,22 +1,21 @@
 -- The layered tree over lists: the walk of a node from p, as the list of what happens; what it lists, and how many it visits.
 -- Use: `Run r` is what holds of every node; `tree-lists`, `tree-visits`, `tree-clean` for the events. No order of the window's edges is assumed.
 use mathlib.Core.Path.{_≡_, refl, sym, ap, ap₂, _∙_, subst}
-use mathlib.Core.Logic.{_≢_}
 use mathlib.Core.List.{List, [], _∷_, _++_}
-use mathlib.Core.Bool.{Bool, true, false, not, _&&_, _||_, cond}
-use Prim.Native.Nat.{ℕ, zero, suc, _+_, _-_, _*_, _^_, _≤_, _<_}
+use mathlib.Core.Bool.{Bool, true, false, not, _&&_, _||_}
+use Prim.Native.Nat.{ℕ, zero, suc, _+_, _-_, _*_, _^_, _≤_}
 use native.Mathlib.Nat.{two-pow-succ}
 use native.Mathlib.Omega.{arith}
 use lib.ListN.{length, take, drop, getD, length-take}
 use lib.Seq.{take-all, getD-take, getD-drop}
 use lib.IntN.{ℤ}
 use lib.Signed.{leZ, ltZ}
-use lib.Dec.{T, T-not, not-T, ltb}
+use lib.Dec.{T, T-not, ltb}
 use Rattle.lists.specs.Plain.{within, half, firstHalf, secondHalf, count, by}
 use Rattle.lists.specs.Tests.{cases, gate, gate-none, fail-right, fail-left, and-left, and-right, fst-of, snd-of, or-cases, or-in, or-more, both, not-not, yes-not, by-flag, is-true}
 use Rattle.lists.specs.Orders.{ℤ-order, fail-down, fail-up, ltZ-not, ltb-linear, by-order, by-key}
 use Rattle.lists.specs.Every.{All, all-map, all-take, all-drop, all-getD, all-both, Sorted, sorted-getD, sorted-map, sorted-take, sorted-drop, Distinct, elem-in, elem-out}
-use Rattle.lists.specs.Counting.{count-nil, count-cons, count-append, count-split, count-none, count-same, count-le, count-length, count-parts}
+use Rattle.lists.specs.Counting.{count-nil, count-cons, count-append, count-split, count-none, count-same, count-length, count-parts}
 use Rattle.lists.specs.Sorting.{sort-count, sort-sorted}
 use Rattle.lists.specs.Halves.{first-length, second-length, ByKey, first-least, last-greatest}
 use Rattle.lists.specs.Searching.{Rising, fallsShort, rising-parts}

@@ -2,20 +2,19 @@
 -- bounded. No order of the window's edges is assumed: this is the walk for any edges.
 -- Use: `walk-ends` says what comes of the walk: the positions `listed`, of which `inside-lists`, `across-lists` and `along-lists` speak, in so many visits as
 -- `whole-visits` allows.
-use mathlib.Core.Path.{_≡_, refl, sym, ap, ap₂, _∙_, subst}
+use mathlib.Core.Path.{_≡_, refl, ap, ap₂, _∙_}
 use mathlib.Core.List.{List, [], _∷_, _++_}
-use mathlib.Core.Bool.{Bool, true, false, not, _&&_, _||_}
+use mathlib.Core.Bool.{Bool, true, false, not, _&&_}
 use Prim.Native.Nat.{ℕ, zero, suc, _+_, _-_, _*_, _^_, _≤_, _<_}
 use native.Mathlib.Nat.{zero-add}
 use native.Mathlib.Omega.{arith}
 use lib.ListN.{length}
-use lib.IntN.{ℤ, pos}
+use lib.IntN.{ℤ}
 use lib.Signed.{leZ}
 use lib.Dec.{eqb·suc-zero, T, eqb}
 use Rattle.lists.specs.Plain.{toNat, positions, filter, count}
-use Rattle.lists.specs.Tests.{gate}
 use Rattle.lists.specs.Every.{All, filter-keeps}
-use Rattle.lists.specs.Counting.{count-nil, count-cons, count-append, count-le, filter-count, filter-length}
+use Rattle.lists.specs.Counting.{count-append, count-le, filter-count, filter-length}
 use Rattle.lists.specs.Positions.{positions-length, positions-below}
 use Rattle.lists.specs.Digits.{digits-bound, digits-mono}
 use Rattle.paper.specs.Descriptor.{at}
