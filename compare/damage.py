@@ -66,6 +66,13 @@ def damage_position(r, words):
     words[place] = near_value(r, words, place) if chance(r, 40) else r.randrange(words[0])
 
 
+def damage_x_order(r, words):
+    """The last level, where nodes read their ends: both count, even where one would decide."""
+    n = words[0]
+    place = level_places(words)[0][-n:][r.randrange(n)]
+    words[place] = r.choice([-1, n, r.randrange(n), *INT32])
+
+
 def damage_count(r, words):
     place = r.choice(level_places(words)[1])
     words[place] = near_value(r, words, place) if chance(r, 40) else words[place] + r.choice([1, -1])
@@ -79,9 +86,11 @@ def sizes_of_nodes(n, level):
 
 
 def count_at_an_edge(r, size, p):
-    """The least and greatest count that is not spoiled at slot p, and what lies just beyond each of the four tests."""
+    """The least or greatest count that is not spoiled at slot p, or one that fails just one of the four tests."""
     left, right = -(-size // 2), size // 2
-    return r.choice([max(0, p - right), min(left, p), -1, p + 1, left + 1, p - right - 1])
+    failed_by = lambda count: (count < 0) + (count > p) + (count > left) + (p - count > right)
+    beyond = [count for count in (-1, p + 1, left + 1, p - right - 1) if failed_by(count) == 1]
+    return r.choice([r.choice([max(0, p - right), min(left, p)]), *beyond])
 
 
 def damage_counts(r, words):
@@ -135,9 +144,9 @@ def damage_header(r, words):
 
 
 DAMAGES = [
-    damage_flip, damage_exchange, damage_neighbours, damage_any_word, damage_position, damage_position, damage_count,
-    damage_count, damage_counts, damage_entry, damage_entry, damage_sizes, damage_centre, damage_record, damage_record,
-    damage_header, damage_cut,
+    damage_flip, damage_exchange, damage_neighbours, damage_any_word, damage_position, damage_position, damage_x_order,
+    damage_x_order, damage_count, damage_count, damage_counts, damage_entry, damage_entry, damage_sizes, damage_centre,
+    damage_record, damage_record, damage_header, damage_cut,
 ]  # fmt: skip
 LEAVING_BLOCKS_IN_PLACE = [damage_position, damage_count, damage_counts, damage_entry, damage_centre, damage_record]
 
