@@ -52,6 +52,11 @@ def change_field(r, lines):
     lines[place] = b"\t".join(fields)
 
 
+def change_table_line(r, lines):
+    """Kind and lower bound at and beyond their limits together: 1 comes before 2."""
+    lines[0] = line("T", r.choice([0, 1, 2, 3, 3, 4, -1]), r.choice([0, 1, -1, 1_000_000, 1_000_001, -1_000_001]))
+
+
 def insert_line(r, lines):
     lines.insert(r.randint(0, len(lines)), r.choice(ODD_LINES))
 
@@ -83,7 +88,10 @@ def change_byte(r, lines):
     lines[place] = bytes(text)
 
 
-LINE_CHANGES = [change_field, change_field, change_field, insert_line, repeat_line, drop_line, exchange_lines, change_byte]
+LINE_CHANGES = [
+    change_field, change_field, change_field, change_table_line, insert_line, repeat_line, drop_line, exchange_lines,
+    change_byte,
+]  # fmt: skip
 
 
 def a_text(r):

@@ -147,11 +147,11 @@ def a_window(r, segments):
 
 def touching_pair(r):
     """A segment whose line passes a window's corner exactly, or as closely as whole coordinates can."""
-    most = r.choice([5, 50, 1_000, COORDINATE_MOST // 4])
+    most = r.choice([5, 50, 1_000, COORDINATE_MOST // 4, COORDINATE_MOST // 4])
     a, b = sorted([r.randint(-most, most), r.randint(-most, most)])
     c, d = sorted([r.randint(-most, most), r.randint(-most, most)])
-    x, y = r.choice([a, b]), r.choice([c, d])
     dx, dy = r.randint(-most, most), r.randint(1, most)
+    x, y = r.choice([(a, d), (b, c)] if dx > 0 else [(a, c), (b, d)])  # where a line of this slope can just touch
     if chance(r, 50) and math.gcd(dx, dy) == 1:
         # The line through the corner moved by the least cross product there is: u * dy - v * dx = 1 or -1.
         v = -pow(dx, -1, dy) if dy > 1 else 0
