@@ -1,19 +1,19 @@
 -- The records of a table as the builder reads them, and the order of positions by two words of their records. These are definitions.
 -- A position travels as a word of the index (ℤ); a negative word stands for position 0, and a position beyond the table has a record of zeros.
 use mathlib.Core.Path.{_≡_}
-use mathlib.Core.Bool.{Bool, true, false, cond}
+use mathlib.Core.Bool.{Bool, false, cond}
 use mathlib.Core.List.{List, map}
-use Prim.Native.Nat.{ℕ, zero, suc, _<_}
+use Prim.Native.Nat.{ℕ, zero, suc}
 use lib.IntN.{ℤ, pos}
 use lib.ListN.{length}
 use lib.Signed.{ltZ}
 use Rattle.lists.specs.Plain.{toNat, by, byGreatest}
-use Rattle.paper.specs.Limits.{extentFits, strideFits}
-use Rattle.paper.specs.Descriptor.{cellOf, sizeOf, outside, segmentOf, segmentsOf, at}
-use Rattle.paper.specs.Answers.{slanted}
+use Rattle.paper.specs.Descriptor.{segmentsOf, at}
+use Rattle.paper.specs.Answers.{badSlant}
 use Rattle.paper.specs.Words.{lowFirst}
 use Rattle.paper.specs.declared.Descriptor.{Descriptor}
 use Rattle.paper.specs.declared.Segment.{Segment}
+use Rattle.table.specs.Cells.{Held}
 use Rattle.records.specs.declared.Keys.{Keys}
 
 -- low end first, in table order
@@ -31,13 +31,10 @@ fieldOf (suc (suc (suc n))) s = s .y2
 unfoldable pub wordAt : List ℤ → Descriptor → ℤ → ℕ → ℤ
 wordAt table d z which = fieldOf which (at (recordsOf d table) (toNat z))
 
--- a table that refusals 3, 4 and 6 pass, read position by position
+-- a table that refusals 3, 4 and 6 pass
 pub record Readable (table : List ℤ) (d : Descriptor) : Type 0 where
-  pub extent : extentFits (d .extent) ≡ true
-  pub segmentStride : strideFits (d .«segment_stride») ≡ true
-  pub coordinateStride : strideFits (d .«coordinate_stride») ≡ true
-  pub inside : (i j : ℕ) → i < sizeOf d → j < 4 → outside (pos (length table)) (cellOf d i j) ≡ false
-  pub straight : (i : ℕ) → i < sizeOf d → slanted (segmentOf d table i) ≡ false
+  pub held : Held (pos (length table)) d
+  pub straight : badSlant (segmentsOf d table) .given ≡ false
 
 -- ---- orders of positions
 module _ (table : List ℤ) (keys : Keys) where
