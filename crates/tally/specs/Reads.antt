@@ -21,6 +21,10 @@ abbrev pub orElse : ℕ → ℤ → ℕ
 orElse d (pos k) = k
 orElse d (negsuc k) = d
 
+pub or-none : (z : ℤ) → orElse 0 z ≡ toNat z
+or-none (pos k) = refl
+or-none (negsuc k) = refl
+
 -- what every part of a walk asks of an index: n and lower bound within limits, and n records
 pub record Ready (index : Index) (ws : List ℤ) : Type 0 where
   pub small : index .n ≤ 65536
