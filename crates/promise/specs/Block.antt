@@ -135,12 +135,12 @@ module _ (rs : List Segment) (axis : Axis) (tidy : (p : ℕ) → T (leZ (nearOf 
   block-length (suc f) [] h = refl
   block-length (suc f) (p ∷ ps) h =
       let c = centre p ps in
-      let S = stay c (p ∷ ps) in
-      let zeros = replicate (4 * length S - 4) (pos 0) in
+      let kept = stay c (p ∷ ps) in
+      let zeros = replicate (4 * length kept - 4) (pos 0) in
       let b1 = blockWordsTo rs axis f (left c (p ∷ ps)) in
       let b2 = blockWordsTo rs axis f (right c (p ∷ ps)) in
-      let q1 = queueWords rs axis low S in
-      let q2 = queueWords rs axis high S in
+      let q1 = queueWords rs axis low kept in
+      let q2 = queueWords rs axis high kept in
       let l = left-size p ps in
       let r = right-size p ps in
       omega (
@@ -151,9 +151,9 @@ module _ (rs : List Segment) (axis : Axis) (tidy : (p : ℕ) → T (leZ (nearOf 
         length-append q2 (zeros ++ (b1 ++ b2)),
         length-append zeros (b1 ++ b2),
         length-append b1 b2,
-        length-replicate (4 * length S - 4) (pos 0),
-        Q.queue-length rs axis low (length S) S (omega arith),
-        Q.queue-length rs axis high (length S) S (omega arith),
+        length-replicate (4 * length kept - 4) (pos 0),
+        Q.queue-length rs axis low (length kept) kept (omega arith),
+        Q.queue-length rs axis high (length kept) kept (omega arith),
         block-length f (left c (p ∷ ps)) (omega arith),
         block-length f (right c (p ∷ ps)) (omega arith),
       )
@@ -161,19 +161,19 @@ module _ (rs : List Segment) (axis : Axis) (tidy : (p : ℕ) → T (leZ (nearOf 
   -- ---- the walk over a list, with the words that its visits stand at
   module _ (e lo hi : ℤ) where
     abbrev queue : End → List ℕ → ℕ → List Event
-    queue end S i = Q.events rs axis end e lo hi (length S) S i
+    queue end kept i = Q.events rs axis end e lo hi (length kept) kept i
 
     unfoldable pub events : ℕ → List ℕ → ℕ → List Event
     events zero ps i = []
     events (suc f) [] i = []
     events (suc f) (p ∷ ps) i =
         let c = centre p ps in
-        let S = stay c (p ∷ ps) in
-        let s = length S in
+        let kept = stay c (p ∷ ps) in
+        let s = length kept in
         let ml = length (left c (p ∷ ps)) in
         visit atBlock i ∷ cond (leZ e c)
-        (queue low S (i + 4) ++ events f (left c (p ∷ ps)) (i + 8 * s))
-        (queue high S (i + 4 + 2 * s) ++ events f (right c (p ∷ ps)) (i + 8 * s + 8 * ml))
+        (queue low kept (i + 4) ++ events f (left c (p ∷ ps)) (i + 8 * s))
+        (queue high kept (i + 4 + 2 * s) ++ events f (right c (p ∷ ps)) (i + 8 * s + 8 * ml))
 
     module _ (ws : List ℤ) (n : ℕ) (w : Window) where
       read-block : (m i s ml mr : ℕ) (c : ℤ) (u v : List Event) → word ws i ≡ c → word ws (i + 1) ≡ pos s → word ws (i + 2) ≡ pos ml → word ws (i + 3) ≡ pos mr
@@ -191,15 +191,15 @@ module _ (rs : List Segment) (axis : Axis) (tidy : (p : ℕ) → T (leZ (nearOf 
       block-walk reads (suc f) [] i h a k = refl
       block-walk reads (suc f) (p ∷ ps) i h a k =
           let c = centre p ps in
-          let S = stay c (p ∷ ps) in
-          let X = left c (p ∷ ps) in
-          let Y = right c (p ∷ ps) in
-          let s = length S in
+          let kept = stay c (p ∷ ps) in
+          let lower = left c (p ∷ ps) in
+          let upper = right c (p ∷ ps) in
+          let s = length kept in
           let zeros = replicate (4 * s - 4) (pos 0) in
-          let b1 = blockWordsTo rs axis f X in
-          let b2 = blockWordsTo rs axis f Y in
-          let q1 = queueWords rs axis low S in
-          let q2 = queueWords rs axis high S in
+          let b1 = blockWordsTo rs axis f lower in
+          let b2 = blockWordsTo rs axis f upper in
+          let q1 = queueWords rs axis low kept in
+          let q2 = queueWords rs axis high kept in
           let l = left-size p ps in
           let r = right-size p ps in
           let n1 : suc i ≡ i + 1 = omega arith in
@@ -207,30 +207,30 @@ module _ (rs : List Segment) (axis : Axis) (tidy : (p : ℕ) → T (leZ (nearOf 
           let n3 : suc (suc (suc i)) ≡ i + 3 = omega arith in
           let n4 : suc (suc (suc (suc i))) ≡ i + 4 = omega arith in
           let e1 : word ws (i + 1) ≡ pos s = rw n1 at (k .1 .0) in
-          let e2 : word ws (i + 2) ≡ pos (length X) = rw n2 at (k .1 .1 .0) in
-          let e3 : word ws (i + 3) ≡ pos (length Y) = rw n3 at (k .1 .1 .1 .0) in
+          let e2 : word ws (i + 2) ≡ pos (length lower) = rw n2 at (k .1 .1 .0) in
+          let e3 : word ws (i + 3) ≡ pos (length upper) = rw n3 at (k .1 .1 .1 .0) in
           let a1 : At ws (i + 4) (q1 ++ (q2 ++ (zeros ++ (b1 ++ b2)))) = rw n4 at (k .1 .1 .1 .1) in
           let p1 = at-append ws (i + 4) q1 (q2 ++ (zeros ++ (b1 ++ b2))) a1 in
           let p2 = at-append ws (i + 4 + length q1) q2 (zeros ++ (b1 ++ b2)) (p1 .1) in
           let p3 = at-append ws (i + 4 + length q1 + length q2) zeros (b1 ++ b2) (p2 .1) in
           let p4 = at-append ws (i + 4 + length q1 + length q2 + length zeros) b1 b2 (p3 .1) in
-          let l1 : length q1 ≡ 2 * s = Q.queue-length rs axis low s S (omega arith) in
-          let l2 : length q2 ≡ 2 * s = Q.queue-length rs axis high s S (omega arith) in
+          let l1 : length q1 ≡ 2 * s = Q.queue-length rs axis low s kept (omega arith) in
+          let l2 : length q2 ≡ 2 * s = Q.queue-length rs axis high s kept (omega arith) in
           let l3 : length zeros ≡ 4 * s - 4 = length-replicate (4 * s - 4) (pos 0) in
-          let l4 : length b1 ≡ 8 * length X = block-length f X (omega arith) in
+          let l4 : length b1 ≡ 8 * length lower = block-length f lower (omega arith) in
           let some = some-stay p ps in
           let o1 : i + 4 + length q1 + length q2 + length zeros ≡ i + 8 * s = omega arith in
-          let o2 : i + 4 + length q1 + length q2 + length zeros + length b1 ≡ i + 8 * s + 8 * length X = omega arith in
+          let o2 : i + 4 + length q1 + length q2 + length zeros + length b1 ≡ i + 8 * s + 8 * length lower = omega arith in
           let o3 : i + 4 + length q1 ≡ i + 4 + 2 * s = omega arith in
-          let il = block-walk reads f X (i + 8 * s) (omega arith) (filter-keeps (λ x. ltZ (far x) c) a) (subst (λ (j : ℕ). At ws j b1) o1 (p4 .0)) in
-          let ir = block-walk reads f Y (i + 8 * s + 8 * length X) (omega arith) (filter-keeps (λ x. ltZ c (near x)) a) (subst (λ (j : ℕ). At ws j b2) o2 (p4 .1)) in
+          let il = block-walk reads f lower (i + 8 * s) (omega arith) (filter-keeps (λ x. ltZ (far x) c) a) (subst (λ (j : ℕ). At ws j b1) o1 (p4 .0)) in
+          let ir = block-walk reads f upper (i + 8 * s + 8 * length lower) (omega arith) (filter-keeps (λ x. ltZ c (near x)) a) (subst (λ (j : ℕ). At ws j b2) o2 (p4 .1)) in
           let ast = filter-keeps (λ x. within (near x) (far x) c) a in
-          let ql = Q.queue-walk rs axis low e lo hi ws n w reads s S (i + 4) (omega arith) ast (p1 .0) in
-          let qh = Q.queue-walk rs axis high e lo hi ws n w reads s S (i + 4 + 2 * s) (omega arith) ast (subst (λ (j : ℕ). At ws j q2) o3 (p2 .0)) in
+          let ql = Q.queue-walk rs axis low e lo hi ws n w reads s kept (i + 4) (omega arith) ast (p1 .0) in
+          let qh = Q.queue-walk rs axis high e lo hi ws n w reads s kept (i + 4 + 2 * s) (omega arith) ast (subst (λ (j : ℕ). At ws j q2) o3 (p2 .0)) in
           rw (e1, e2, e3)
           (ap₂ (λ (u v : List Event). blockAt ws n w axis e lo hi (suc (length ps)) i u v) il ir
-          ∙ read-block (suc (length ps)) i s (length X) (length Y) c _ _ (k .0) e1 e2 e3 some (sizes c (p ∷ ps))
-          ∙ ap₂ (λ (u v : List Event). visit atBlock i ∷ cond (leZ e c) (u ++ events f X (i + 8 * s)) (v ++ events f Y (i + 8 * s + 8 * length X))) ql qh)
+          ∙ read-block (suc (length ps)) i s (length lower) (length upper) c _ _ (k .0) e1 e2 e3 some (sizes c (p ∷ ps))
+          ∙ ap₂ (λ (u v : List Event). visit atBlock i ∷ cond (leZ e c) (u ++ events f lower (i + 8 * s)) (v ++ events f upper (i + 8 * s + 8 * length lower))) ql qh)
 
     -- ---- what it lists and visits: those that cross the edge e at a level in the band
     abbrev pub hit : ℕ → Bool
@@ -270,22 +270,22 @@ module _ (rs : List Segment) (axis : Axis) (tidy : (p : ℕ) → T (leZ (nearOf 
         (filter-holds (λ x. ltZ (far x) c) ps))
 
     -- ---- a visit, a queue, and then a block: the same for both sides
-    module _ (end : End) (S part ps : List ℕ) (i j : ℕ) (es : List Event) where
+    module _ (end : End) (kept part ps : List ℕ) (i j : ℕ) (es : List Event) where
       abbrev side : List Event
-      side = visit atBlock i ∷ (queue end S j ++ es)
+      side = visit atBlock i ∷ (queue end kept j ++ es)
 
-      side-tally : (q : Event → Bool) → count q side ≡ gate (q (visit atBlock i)) 1 + (count q (queue end S j) + count q es)
-      side-tally q = omega (arith, count-cons q (visit atBlock i) (queue end S j ++ es), count-append q (queue end S j) es)
+      side-tally : (q : Event → Bool) → count q side ≡ gate (q (visit atBlock i)) 1 + (count q (queue end kept j) + count q es)
+      side-tally q = omega (arith, count-cons q (visit atBlock i) (queue end kept j ++ es), count-append q (queue end kept j) es)
 
       side-clean : Clean es → Clean side
-      side-clean h = omega (arith, side-tally isSpoiled, Q.queue-clean rs axis end e lo hi (length S) S j)
+      side-clean h = omega (arith, side-tally isSpoiled, Q.queue-clean rs axis end e lo hi (length kept) kept j)
 
-      side-lists : (q : ℕ → Bool) → count (λ x. q x && Q.hit rs axis end e lo hi x) S ≡ count (λ x. q x && hit x) S
-          → count (λ x. q x && hit x) ps ≡ count (λ x. q x && hit x) S + count (λ x. q x && hit x) part
+      side-lists : (q : ℕ → Bool) → count (λ x. q x && Q.hit rs axis end e lo hi x) kept ≡ count (λ x. q x && hit x) kept
+          → count (λ x. q x && hit x) ps ≡ count (λ x. q x && hit x) kept + count (λ x. q x && hit x) part
           → count (isDue q) es ≡ count (λ x. q x && hit x) part → count (isDue q) side ≡ count (λ x. q x && hit x) ps
-      side-lists q same whole h = omega (arith, side-tally (isDue q), Q.queue-lists rs axis end e lo hi q (length S) S j (omega arith))
+      side-lists q same whole h = omega (arith, side-tally (isDue q), Q.queue-lists rs axis end e lo hi q (length kept) kept j (omega arith))
 
-      side-visits : (h : ℕ) → length S < 2 ^ suc h → count (Q.hit rs axis end e lo hi) S ≡ count hit S → count hit ps ≡ count hit S + count hit part
+      side-visits : (h : ℕ) → length kept < 2 ^ suc h → count (Q.hit rs axis end e lo hi) kept ≡ count hit kept → count hit ps ≡ count hit kept + count hit part
           → visitsOf es ≤ 2 * count hit part + 2 * (h * h) + 4 * h → visitsOf side ≤ 2 * count hit ps + 2 * (suc h * suc h) + 4 * suc h
       side-visits h g same whole k =
           omega (
@@ -293,7 +293,7 @@ module _ (rs : List Segment) (axis : Axis) (tidy : (p : ℕ) → T (leZ (nearOf 
             suc-mul h (suc h),
             mul-suc h h,
             side-tally isVisit,
-            Q.queue-visits rs axis end e lo hi true true (length S) (suc h) S j g absurd absurd,
+            Q.queue-visits rs axis end e lo hi true true (length kept) (suc h) kept j g absurd absurd,
           )
 
     -- what crosses is among those that stay and those of the block that is walked
@@ -309,13 +309,13 @@ module _ (rs : List Segment) (axis : Axis) (tidy : (p : ℕ) → T (leZ (nearOf 
     block-clean (suc f) [] i = count-nil isSpoiled
     block-clean (suc f) (p ∷ ps) i =
         let c = centre p ps in
-        let S = stay c (p ∷ ps) in
-        let X = left c (p ∷ ps) in
-        let Y = right c (p ∷ ps) in
-        let s = length S in
+        let kept = stay c (p ∷ ps) in
+        let lower = left c (p ∷ ps) in
+        let upper = right c (p ∷ ps) in
+        let s = length kept in
         cases (λ es. Clean (visit atBlock i ∷ es)) (leZ e c) _ _
-        (λ t. side-clean low S X (p ∷ ps) i (i + 4) (events f X (i + 8 * s)) (block-clean f X (i + 8 * s)))
-        (λ t. side-clean high S Y (p ∷ ps) i (i + 4 + 2 * s) (events f Y (i + 8 * s + 8 * length X)) (block-clean f Y (i + 8 * s + 8 * length X)))
+        (λ t. side-clean low kept lower (p ∷ ps) i (i + 4) (events f lower (i + 8 * s)) (block-clean f lower (i + 8 * s)))
+        (λ t. side-clean high kept upper (p ∷ ps) i (i + 4 + 2 * s) (events f upper (i + 8 * s + 8 * length lower)) (block-clean f upper (i + 8 * s + 8 * length lower)))
 
     -- every test counts on what is due as on those of the list that cross
     pub block-lists : (q : ℕ → Bool) (f : ℕ) (ps : List ℕ) (i : ℕ) → length ps ≤ f → count (isDue q) (events f ps i) ≡ count (λ x. q x && hit x) ps
@@ -325,16 +325,16 @@ module _ (rs : List Segment) (axis : Axis) (tidy : (p : ℕ) → T (leZ (nearOf 
     block-lists q (suc f) [] i h = count-nil (isDue q) ∙ sym (count-nil (λ x. q x && hit x))
     block-lists q (suc f) (p ∷ ps) i h =
         let c = centre p ps in
-        let S = stay c (p ∷ ps) in
-        let X = left c (p ∷ ps) in
-        let Y = right c (p ∷ ps) in
-        let s = length S in
+        let kept = stay c (p ∷ ps) in
+        let lower = left c (p ∷ ps) in
+        let upper = right c (p ∷ ps) in
+        let s = length kept in
         let l = left-size p ps in
         let r = right-size p ps in
         cases (λ es. count (isDue q) (visit atBlock i ∷ es) ≡ count (λ x. q x && hit x) (p ∷ ps)) (leZ e c) _ _
-        (λ t. side-lists low S X (p ∷ ps) i (i + 4) (events f X (i + 8 * s)) q (low-lists q c (p ∷ ps) t) (left-whole q c (p ∷ ps) t) (block-lists q f X (i + 8 * s) (omega arith)))
-        (λ t. side-lists high S Y (p ∷ ps) i (i + 4 + 2 * s) (events f Y (i + 8 * s + 8 * length X)) q (high-lists q c (p ∷ ps) t) (right-whole q c (p ∷ ps) t)
-        (block-lists q f Y (i + 8 * s + 8 * length X) (omega arith)))
+        (λ t. side-lists low kept lower (p ∷ ps) i (i + 4) (events f lower (i + 8 * s)) q (low-lists q c (p ∷ ps) t) (left-whole q c (p ∷ ps) t) (block-lists q f lower (i + 8 * s) (omega arith)))
+        (λ t. side-lists high kept upper (p ∷ ps) i (i + 4 + 2 * s) (events f upper (i + 8 * s + 8 * length lower)) q (high-lists q c (p ∷ ps) t) (right-whole q c (p ∷ ps) t)
+        (block-lists q f upper (i + 8 * s + 8 * length lower) (omega arith)))
 
     pub block-visits : (f h : ℕ) (ps : List ℕ) (i : ℕ) → length ps < 2 ^ h → visitsOf (events f ps i) ≤ 2 * count hit ps + 2 * (h * h) + 4 * h
     unfolding events
@@ -343,16 +343,16 @@ module _ (rs : List Segment) (axis : Axis) (tidy : (p : ℕ) → T (leZ (nearOf 
     block-visits (suc f) zero (p ∷ ps) i g = absurd (omega arith)
     block-visits (suc f) (suc h) (p ∷ ps) i g =
         let c = centre p ps in
-        let S = stay c (p ∷ ps) in
-        let X = left c (p ∷ ps) in
-        let Y = right c (p ∷ ps) in
-        let s = length S in
+        let kept = stay c (p ∷ ps) in
+        let lower = left c (p ∷ ps) in
+        let upper = right c (p ∷ ps) in
+        let s = length kept in
         let all : ℕ → Bool = λ x. true in
         let l = left-size p ps in
         let r = right-size p ps in
         let gs : s < 2 ^ suc h = omega (arith, sizes c (p ∷ ps)) in
         cases (λ es. visitsOf (visit atBlock i ∷ es) ≤ 2 * count hit (p ∷ ps) + 2 * (suc h * suc h) + 4 * suc h) (leZ e c) _ _
-        (λ t. side-visits low S X (p ∷ ps) i (i + 4) (events f X (i + 8 * s)) h gs (low-lists all c (p ∷ ps) t) (left-whole all c (p ∷ ps) t)
-        (block-visits f h X (i + 8 * s) (omega (arith, two-pow-succ h))))
-        (λ t. side-visits high S Y (p ∷ ps) i (i + 4 + 2 * s) (events f Y (i + 8 * s + 8 * length X)) h gs (high-lists all c (p ∷ ps) t) (right-whole all c (p ∷ ps) t)
-        (block-visits f h Y (i + 8 * s + 8 * length X) (omega (arith, two-pow-succ h))))
+        (λ t. side-visits low kept lower (p ∷ ps) i (i + 4) (events f lower (i + 8 * s)) h gs (low-lists all c (p ∷ ps) t) (left-whole all c (p ∷ ps) t)
+        (block-visits f h lower (i + 8 * s) (omega (arith, two-pow-succ h))))
+        (λ t. side-visits high kept upper (p ∷ ps) i (i + 4 + 2 * s) (events f upper (i + 8 * s + 8 * length lower)) h gs (high-lists all c (p ∷ ps) t) (right-whole all c (p ∷ ps) t)
+        (block-visits f h upper (i + 8 * s + 8 * length lower) (omega (arith, two-pow-succ h))))

@@ -140,11 +140,13 @@ module _ (rs : List Segment) (w : Window) (ws : List ℤ) (reads : (p : ℕ) →
       let fits : p ≤ length (slots rs r) = omega (arith, slots-length rs r) in
       let sw = slots-walk (drop p (slots rs r)) (i + p) (all-drop p (sort-all (by (lowY rs) ltb) a)) (at-drop ws i p (slots rs r) fits ai) in
       let sw2 : slotsWalk ws n w (length r - p) (i + p) ≡ slotEvents rs w (drop p (slots rs r)) (i + p) = rw rest at sw in
+      let below-words = asCount p (half (length r)) (length r - half (length r)) (countWord ws n (length r) p i) (λ k. left k ++ right (p - k)) in
+      let slot-words = slotsWalk ws n w (length r - p) (i + p) in
       ap (λ (es : List Event). visit atNode i ∷ es)
       (position-read n (word ws z) f _ wf gf
       ∙ position-read n (word ws (z + length r - 1)) l _ wl gl
-      ∙ ap₂ (λ (s t : Segment). byEnds w (s .x1) (t .x1) (slotsWalk ws n w (length r - p) (i + p)) (asCount p (half (length r)) (length r - half (length r)) (countWord ws n (length r) p i) (λ k. left k ++ right (p - k)))) (reads f gf) (reads l gl)
-      ∙ below-alike w (firstX rs w r) (lastX rs w r) _ _ B below
+      ∙ ap₂ (λ (s t : Segment). byEnds w (s .x1) (t .x1) slot-words below-words) (reads f gf) (reads l gl)
+      ∙ below-alike w (firstX rs w r) (lastX rs w r) slot-words below-words B below
       ∙ ap (λ (A : List Event). byEnds w (firstX rs w r) (lastX rs w r) A B) sw2)
 
   -- the word that says how many go left
@@ -185,7 +187,10 @@ module _ (rs : List Segment) (w : Window) (ws : List ℤ) (reads : (p : ℕ) →
       let ok = left-sound rs w p v hp in
       let lf = first-length r in
       let ls = second-length r in
-      let il = node-walk levels (suc k) o (firstHalf r) (leftOf rs w r p) (omega arith) (left-stands rs k o r two s) (left-run rs w two v) (omega (arith, two-pow-succ levels)) (all-take m a) (omega (arith, ok .1 .0)) in
-      let ir = node-walk levels (suc k) (o + m) (secondHalf r) (p - leftOf rs w r p) (omega arith) (right-stands rs k o r two s) (right-run rs w two v) (omega (arith, two-pow-succ levels)) (all-drop m a) (omega (arith, ok .1 .1)) in
+      let goes = leftOf rs w r p in
+      let il =
+      node-walk levels (suc k) o (firstHalf r) goes (omega arith) (left-stands rs k o r two s) (left-run rs w two v) (omega (arith, two-pow-succ levels)) (all-take m a) (omega (arith, ok .1 .0)) in
+      let ir =
+      node-walk levels (suc k) (o + m) (secondHalf r) (p - goes) (omega arith) (right-stands rs k o r two s) (right-run rs w two v) (omega (arith, two-pow-succ levels)) (all-drop m a) (omega (arith, ok .1 .1)) in
       count-read p m (length r - m) _ (leftOf rs w r p) _ (count-word k o r p (omega arith) s v hp) (ok .0) (ok .1 .0) (ok .1 .1)
       ∙ ap₂ (λ (x y : List Event). x ++ y) (moved levels (firstHalf r) (leftOf rs w r p) ol lf il) (moved levels (secondHalf r) (p - leftOf rs w r p) or ls ir))

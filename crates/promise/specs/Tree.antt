@@ -269,14 +269,14 @@ module _ (rs : List Segment) (w : Window) where
       (λ t. omega (arith, inn-list q (i + start r) v t))
       (λ t k.
       let two = wide v t k in
-      let L = firstHalf r in
-      let R = secondHalf r in
+      let left = firstHalf r in
+      let right = secondHalf r in
       rw (right-start v, left-start v)
       (omega (
         arith,
-        count-append (isDue q) (events (suc h) L (start L) j) (events (suc h) R (start R) (j + half (length r))),
-        tree-lists q h L j (left-run two v) (omega (arith, first-length r, two-pow-succ h)),
-        tree-lists q h R (j + half (length r)) (right-run two v) (omega (arith, second-length r, two-pow-succ h)),
+        count-append (isDue q) (events (suc h) left (start left) j) (events (suc h) right (start right) (j + half (length r))),
+        tree-lists q h left j (left-run two v) (omega (arith, first-length r, two-pow-succ h)),
+        tree-lists q h right (j + half (length r)) (right-run two v) (omega (arith, second-length r, two-pow-succ h)),
         count-split u (half (length r)) r,
       ))))
 
@@ -328,23 +328,23 @@ module _ (rs : List Segment) (w : Window) where
       (λ t. inn-visits cl ch (suc h) (i + start r) v t)
       (λ t k.
       let two = wide v t k in
-      let L = firstHalf r in
-      let R = secondHalf r in
+      let left = firstHalf r in
+      let right = secondHalf r in
       let m = half (length r) in
       let vl = left-run two v in
       let vr = right-run two v in
-      let x = lastX L in
-      let y = firstX R in
+      let x = lastX left in
+      let y = firstX right in
       let below = last-greatest leZ ℤ-order X 0 (vl .some) (vl .ordered) in
       let above = first-least leZ ℤ-order X 0 (vr .some) (vr .ordered) in
       let seam : T (leZ x y) = halves-apart v two in
-      rw (right-start v, left-start v, count-split inside m r, count-append isVisit (events f L (start L) j) (events f R (start R) (j + m)))
-      (node-cost cl ch (leZ (w .a) x) (leZ y (w .b)) h (count inside L) (count inside R) _ _
+      rw (right-start v, left-start v, count-split inside m r, count-append isVisit (events f left (start left) j) (events f right (start right) (j + m)))
+      (node-cost cl ch (leZ (w .a) x) (leZ y (w .b)) h (count inside left) (count inside right) _ _
       (λ a b. T-not (inn r) k (both (leZ (w .a) (firstX r)) (leZ (lastX r) (w .b)) (all-getD 0 0 (omega arith) (il a)) (all-getD (length r - 1) 0 (omega arith) (ih b))))
-      (λ a. out-visits f L (start L) j (or-in (ltZ x (w .a)) (ltZ (w .b) (firstX L)) (subst T (sym (ltZ-not x (w .a))) a)))
-      (λ a. out-visits f R (start R) (j + m) (or-more (ltZ (lastX R) (w .a)) (ltZ (w .b) y) (subst T (sym (ltZ-not (w .b) y)) a)))
-      (tree-visits cl (ch && not (leZ y (w .b))) f h L j vl (omega (arith, first-length r, two-pow-succ h)) (λ a. all-take m (il a))
+      (λ a. out-visits f left (start left) j (or-in (ltZ x (w .a)) (ltZ (w .b) (firstX left)) (subst T (sym (ltZ-not x (w .a))) a)))
+      (λ a. out-visits f right (start right) (j + m) (or-more (ltZ (lastX right) (w .a)) (ltZ (w .b) y) (subst T (sym (ltZ-not (w .b) y)) a)))
+      (tree-visits cl (ch && not (leZ y (w .b))) f h left j vl (omega (arith, first-length r, two-pow-succ h)) (λ a. all-take m (il a))
       (by-flag ch (leZ y (w .b)) (λ a. all-take m (ih a)) (λ a. all-map (λ u g. ℤ-order .trans (X u) x (w .b) g (ℤ-order .trans x y (w .b) seam a)) below)))
-      (tree-visits (cl && not (leZ (w .a) x)) ch f h R (j + m) vr (omega (arith, second-length r, two-pow-succ h))
+      (tree-visits (cl && not (leZ (w .a) x)) ch f h right (j + m) vr (omega (arith, second-length r, two-pow-succ h))
       (by-flag cl (leZ (w .a) x) (λ a. all-drop m (il a)) (λ a. all-map (λ u g. ℤ-order .trans (w .a) x (X u) a (ℤ-order .trans x y (X u) seam g)) above))
       (λ a. all-drop m (ih a))))))
