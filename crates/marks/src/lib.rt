@@ -1,7 +1,7 @@
 // The public calls over lent buffers. No call asks anything of its input: bad input gets its answer number and leaves every cell as it was.
 ghost use mathlib.Core.Path.{_≡_};
 ghost use lib.IntN.{pos};
-ghost use Rattle.paper.specs.Results.{Scanned};
+ghost use Rattle.paper.specs.Results.{Scanned, queried};
 ghost use Rattle.paper.specs.Demands.{ScanPromise};
 use paper::Descriptor;
 use paper::Reply;
@@ -32,4 +32,26 @@ pub fn scan(table: &[i32], descriptor: Descriptor, window: Window, numbers: &mut
     }
     let count = scan::list(table, descriptor, window, numbers);
     refusals::done(count, 0)
+}
+
+// The numbers that the walk of an index lists for a window, into the first cells; order 9, 8, 7, 10. Answer 10 sets the first n cells to 0.
+pub fn query(words: &[i32], window: Window, numbers: &mut [i32]) -> Reply
+    ensures { λ r. ⌜ (r, now (numbers .exit)) ≡ queried (now (words .entry)) window (now (numbers .entry)) ⌝ }
+{
+    if walk::bad_index(words) {
+        return refusals::refusal(9, 0);
+    }
+    if meeting::bad_window(window) {
+        return refusals::refusal(8, 0);
+    }
+    let n = tally::whole_at(words, 0, 0);
+    if numbers.len() < n {
+        return refusals::refusal(7, 0);
+    }
+    let tally = walk::walk(words, window, numbers);
+    if 0 < tally.stopped {
+        records::clear(numbers, 0, n);
+        return refusals::refusal(10, 0);
+    }
+    refusals::done(tally.listed, tally.visits)
 }
