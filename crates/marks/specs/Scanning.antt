@@ -21,7 +21,7 @@ use Rattle.paper.specs.declared.Reply.{Reply}
 use Rattle.meeting.specs.Determined.{tested, decided, tested-is}
 use Rattle.scan.specs.Listing.{metPositions, metNumbers}
 use Rattle.scan.specs.Promise.{lists-numbers, ascending}
-use Rattle.marks.specs.Orders.{refusalAt, firstGiven, tableOrder, table-given, table-left, refuses, passes, zero-done, at-number}
+use Rattle.marks.specs.Orders.{refusalAt, refuse, firstGiven, tableOrder, table-given, table-left, refuses, passes, zero-done, at-number}
 
 -- ---- demand 2, of any scan that `paper` allows
 module _ (table : List ℤ) (d : Descriptor) (w : Window) (numbers : List ℤ) where
@@ -65,9 +65,6 @@ module _ (table : List ℤ) (d : Descriptor) (w : Window) (numbers : List ℤ) w
   gives : {r : Result} → r ≡ scanned (tested w) table d w numbers → Given r
   gives {r} e = let s : Scanned table d w numbers r = record { meets = tested w; decides = decided w; result = e } in (s, scan-promise r s)
 
-  abbrev refuse : Answer → Result
-  refuse x = (refused x, numbers)
-
   abbrev last : List Answer
   last = badCoordinate (segmentsOf d table) ∷ []
 
@@ -82,29 +79,29 @@ module _ (table : List ℤ) (d : Descriptor) (w : Window) (numbers : List ℤ) w
   by-table number e n h = gives (ap (λ x. (x, numbers)) h ∙ table-given table d after numbers (listing (tested w)) number e n)
 
   module _ (p : firstGiven (tableOrder table d) ≡ 0) where
-    onward : {r : Result} → r ≡ judged after refuse (listing (tested w)) → Given r
+    onward : {r : Result} → r ≡ judged after (refuse numbers) (listing (tested w)) → Given r
     unfolding scanned
     onward e = gives (e ∙ table-left table d after numbers (listing (tested w)) p)
 
     pub by-window : {r : Reply} → badWindow w .given ≡ true → r ≡ refused (refusalAt 8 0) → Given (r, numbers)
-    by-window g e = onward (refuses (badWindow w) room refuse (listing (tested w)) g (ap (λ x. (x, numbers)) e))
+    by-window g e = onward (refuses (badWindow w) room (refuse numbers) (listing (tested w)) g (ap (λ x. (x, numbers)) e))
 
     module _ (g : badWindow w .given ≡ false) where
       pub by-room : {r : Reply} → ltb (length numbers) (sizeOf d) ≡ true → r ≡ refused (refusalAt 7 0) → Given (r, numbers)
       by-room h e =
-          onward (passes (badWindow w) room refuse (listing (tested w)) g
-          (refuses (badBuffer (sizeOf d) (length numbers)) last refuse (listing (tested w)) h (ap (λ x. (x, numbers)) e)))
+          onward (passes (badWindow w) room (refuse numbers) (listing (tested w)) g
+          (refuses (badBuffer (sizeOf d) (length numbers)) last (refuse numbers) (listing (tested w)) h (ap (λ x. (x, numbers)) e)))
 
       module _ (h : ltb (length numbers) (sizeOf d) ≡ false) where
         pub by-far : {r : Reply} (place : ℕ) → badCoordinate (segmentsOf d table) ≡ refusalAt 5 place → r ≡ refused (refusalAt 5 place) → Given (r, numbers)
         by-far place k e =
-            onward (passes (badWindow w) room refuse (listing (tested w)) g
-            (passes (badBuffer (sizeOf d) (length numbers)) last refuse (listing (tested w)) h
-            (refuses (badCoordinate (segmentsOf d table)) [] refuse (listing (tested w)) (ap (λ x. x .given) k) (ap (λ x. (x, numbers)) (e ∙ ap refused (sym k))))))
+            onward (passes (badWindow w) room (refuse numbers) (listing (tested w)) g
+            (passes (badBuffer (sizeOf d) (length numbers)) last (refuse numbers) (listing (tested w)) h
+            (refuses (badCoordinate (segmentsOf d table)) [] (refuse numbers) (listing (tested w)) (ap (λ x. x .given) k) (ap (λ x. (x, numbers)) (e ∙ ap refused (sym k))))))
 
         pub by-listing : {r : Reply} {cells : List ℤ} → badCoordinate (segmentsOf d table) .given ≡ false → r ≡ done (length (metPositions table d w)) 0 → cells ≡ over (metNumbers table d w) numbers → Given (r, cells)
         by-listing k e o =
-            onward (passes (badWindow w) room refuse (listing (tested w)) g
-            (passes (badBuffer (sizeOf d) (length numbers)) last refuse (listing (tested w)) h
-            (passes (badCoordinate (segmentsOf d table)) [] refuse (listing (tested w)) k
+            onward (passes (badWindow w) room (refuse numbers) (listing (tested w)) g
+            (passes (badBuffer (sizeOf d) (length numbers)) last (refuse numbers) (listing (tested w)) h
+            (passes (badCoordinate (segmentsOf d table)) [] (refuse numbers) (listing (tested w)) k
             (ap₂ (λ x y. (x, y)) e o ∙ ap listing (λ i s. sym (tested-is w g s) i)))))
