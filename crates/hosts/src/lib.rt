@@ -1,8 +1,8 @@
-// What C hosts call: three answers on plain numbers, a refusal as its negative, and the scan on lent buffers. Each is a few lines over the crates below.
+// What C hosts call: three answers on plain numbers, a refusal as its negative, and the scan and the query on lent buffers. Each is a few lines over the crates below.
 ghost use mathlib.Core.Path.{_≡_};
 ghost use Rattle.paper.specs.Answers.{badPlace};
 ghost use Rattle.paper.specs.Hosts.{hostCell, hostWords, HostMeet};
-ghost use Rattle.paper.specs.Results.{Scanned};
+ghost use Rattle.paper.specs.Results.{Scanned, queried};
 ghost use Rattle.hosts.specs.Answered.{cellAnswer, replyOf};
 use paper::Descriptor;
 use paper::Segment;
@@ -157,6 +157,34 @@ pub extern "C" fn kalinosz_scan(
         d: d,
     };
     let reply = marks::scan(table, descriptor, window, numbers);
+    HostReply {
+        number: reply.number,
+        count: reply.count,
+        visits: reply.visits,
+        position: reply.position,
+    }
+}
+
+// ---- the query on lent buffers
+
+#[no_mangle]
+pub extern "C" fn kalinosz_query(
+    index: &[i32],
+    a: i64,
+    b: i64,
+    c: i64,
+    d: i64,
+    numbers: &mut [i32],
+) -> HostReply
+    ensures { λ r. ⌜ (replyOf r, now (numbers .exit)) ≡ queried (now (index .entry)) (record { a = a; b = b; c = c; d = d }) (now (numbers .entry)) ⌝ }
+{
+    let window = Window {
+        a: a,
+        b: b,
+        c: c,
+        d: d,
+    };
+    let reply = marks::query(index, window, numbers);
     HostReply {
         number: reply.number,
         count: reply.count,
