@@ -1,5 +1,6 @@
 # make                  the archive, the shared object and the Fortran module, in target/kalinosz
 # make install          .. header, module, archive, shared object and pkg-config file under PREFIX (/usr/local; DESTDIR is put before it)
+# make example          runs the worked example of docs/EXAMPLE.md through the program `survey`
 # make examples         runs the examples of all languages
 # make clean            takes away what the above made
 # The proved part is the archive of the crate `hosts`; only the reading of Fortran descriptors (fortran/) is added to it.
@@ -42,10 +43,14 @@ install: all
 	cp $(OUT)/libkalinosz.a $(OUT)/libkalinosz.so $(DESTDIR)$(PREFIX)/lib
 	sed -e 's|@PREFIX@|$(PREFIX)|' -e 's|@VERSION@|$(VERSION)|' include/kalinosz.pc.in >$(DESTDIR)$(PREFIX)/lib/pkgconfig/kalinosz.pc
 
+example:
+	rt check survey
+	target/bin/survey <crates/survey/stdin
+
 examples:
 	languages/run
 
 clean:
 	rm -rf $(OUT) target/languages target/bench
 
-.PHONY: all install examples clean
+.PHONY: all install example examples clean
