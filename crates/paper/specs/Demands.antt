@@ -9,7 +9,7 @@ use lib.IntN.{ℤ, pos}
 use lib.Signed.{ltZ, leZ, _≤ℤ_}
 use lib.ListN.{length, take}
 use Rattle.lists.specs.Plain.{within, same, toNat, count}
-use Rattle.paper.specs.Limits.{mostSegments}
+use Rattle.paper.specs.Limits.{mostSegments, lowerFits}
 use Rattle.paper.specs.Descriptor.{at, numberOf, firstNumber, segmentsOf}
 use Rattle.paper.specs.Meeting.{Meets}
 use Rattle.paper.specs.Answers.{positionsOf, badCoordinate, badSlant, badWindow}
@@ -65,6 +65,7 @@ pub record Straight (segments : List Segment) : Type 0 where
 
 -- words that are an index of segments whose position 0 has the number `first`: the builder's, whatever stands after them
 pub record IndexOf (first : ℤ) (segments : List Segment) (ws : List ℤ) : Type 0 where
+  pub numbered : lowerFits first ≡ true
   pub accepted : Straight segments
   pub rest : List ℤ
   pub words : ws ≡ indexWords first segments ++ rest

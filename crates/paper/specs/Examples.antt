@@ -1,5 +1,5 @@
 -- Document 01: computed examples over its definitions, one table, one statement (`examples`). A row that does not hold makes this crate fail.
--- `starred` are the starred examples that are calls; crate `examples` joins them with the starred rows about Meeting, whose decision has to be proved first.
+-- The starred examples of the document, those about Meeting among them, are one table of their own in crate `examples`.
 -- Rows: a text stands for the numbers in it, or for its bytes. Refusals stand in the rows of their order with all later faults present too, so that each row
 -- is also the pair of its number with the next.
 use mathlib.Core.List.{List, [], _∷_, _++_}
@@ -35,10 +35,10 @@ use Rattle.paper.specs.Rows.{
   reply,
 }
 
--- ---- the starred calls of "Examples on both sides"
+-- ---- the calls of "Examples on both sides"
 
-abbrev pub starred : List Row
-starred =
+abbrev exampleRows : List Row
+exampleRows =
     -- base 8, segment stride −4, coordinate stride 1, n = 3, 12 cells: accepted
     scan (cells "0 1 2 3 4 5 6 7 8 9 10 11") (descriptor "1 8 0 3 -4 1") (window "0 4 0 4") (sevens 3) (reply "0 1 0 0", cells "2 7 7")
     -- base 7: 4
@@ -236,7 +236,7 @@ programRows =
     ∷ []
 
 abbrev table : List Row
-table = starred ++ (wordRows ++ (builderRows ++ (scanRows ++ (queryRows ++ (hostRows ++ programRows)))))
+table = exampleRows ++ (wordRows ++ (builderRows ++ (scanRows ++ (queryRows ++ (hostRows ++ programRows)))))
 
 pub examples : All table
 unfolding bytes positions filter count any last joined insert sort addressed segmentsOf digitsTo nodes levelWords levelsWords queueWordsTo blockWordsTo indexWords searchTo slotsWalk nodeAt nodeWalk queueAt queueWalkTo blockAt blockWalkTo walk step run walkOf built listing queried scanned hostCell hostWords hostMeet parts withoutEmptyLast valueFrom numbersIn lineOf decimalTo tabbed read fromLine program

@@ -148,7 +148,7 @@ module _ (table : List ℤ) (d : Descriptor) (index : List ℤ) where
 all-sound : (p q r s t u v : Bool) → p ≡ false → q ≡ true → r ≡ true → s ≡ false → t ≡ false → u ≡ true → v ≡ false → (p || not q || not r || s || t || not u || v) ≡ false
 all-sound p q r s t u v e1 e2 e3 e4 e5 e6 e7 = rw (e1, e2, e3, e4, e5, e6, e7) refl
 
-module _ (first : ℤ) (segments : List Segment) (ws : List ℤ) (index : IndexOf first segments ws) (fits : lowerFits first ≡ true) where
+module _ (first : ℤ) (segments : List Segment) (ws : List ℤ) (index : IndexOf first segments ws) where
   abbrev n : ℕ
   n = length segments
 
@@ -181,7 +181,7 @@ module _ (first : ℤ) (segments : List Segment) (ws : List ℤ) (index : IndexO
       (ltb (length ws) (W (sizeIn ws)))
       (le-ltb (length ws) 4 (omega (arith, words-enough)))
       extent-fits
-      (ap lowerFits (first-word first segments ws index) ∙ fits)
+      (ap lowerFits (first-word first segments ws index) ∙ index .numbered)
       (rw (across-word first segments ws index) (le-ltb (length (horizontals (map lowFirst segments))) 0 (omega arith)))
       (rw (along-word first segments ws index) (le-ltb (length (verticals (map lowFirst segments))) 0 (omega arith)))
       counts-add

@@ -1,13 +1,12 @@
 -- The promises, proved: what `paper`'s Demands states holds of every index, whatever its segments, crossing or not, equal or not.
 -- Demand 2 is in `once` and `groups`, demand 3 in `few`; `ends` says that the walk is never stopped. `low-ends` (LowEnds) has the first group by itself.
 use mathlib.Core.Path.{_≡_, refl, sym, ap, subst}
-use mathlib.Core.Bool.{true, false}
+use mathlib.Core.Bool.{false}
 use mathlib.Core.List.{List}
 use Prim.Native.Nat.{_≤_}
 use lib.IntN.{ℤ, pos}
 use lib.ListN.{length, drop, length-map}
 use lib.Dec.{le→leb}
-use Rattle.paper.specs.Limits.{lowerFits}
 use Rattle.paper.specs.Descriptor.{firstNumber, numberOf, segmentsOf}
 use Rattle.paper.specs.Answers.{badWindow}
 use Rattle.paper.specs.Words.{indexWords}
@@ -34,31 +33,30 @@ index-demands first segments w ws index good =
 
 -- the same as a caller of the query sees it: in the reply and in the number cells
 pub query-promise : (first : ℤ) (segments : List Segment) (w : Window) (ws numbers : List ℤ)
-    → IndexOf first segments ws → lowerFits first ≡ true → badWindow w .given ≡ false → length segments ≤ length numbers
+    → IndexOf first segments ws → badWindow w .given ≡ false → length segments ≤ length numbers
     → QueryPromise first segments w (queried ws w numbers)
-query-promise first segments w ws numbers index fits good room =
+query-promise first segments w ws numbers index good room =
     let r = index-demands first segments w ws index good in
     let ns = numbersOf first (r .listed) in
     let size = length-map (r .listed) (numberOf first) in
-    subst (QueryPromise first segments w) (sym (query-done first segments ws index fits w numbers good room (r .listed) (r .visits) (r .ends)))
+    subst (QueryPromise first segments w) (sym (query-done first segments ws index w numbers good room (r .listed) (r .visits) (r .ends)))
     (record {
       isDone = refl;
       lists = subst (ListsNumbers first segments w) (sym (listed-numbers ns numbers (length (r .listed)) (r .visits) size)) (once-numbers first segments w (r .listed) (r .once));
       few = record { le = le→leb (r .visits) (mostVisits (length segments) (length (r .listed))) (r .few) };
     })
 
--- a builder that is done has written an index of the table, in whatever buffer; its position 0 has a number within the limits
+-- a builder that is done has written an index of the table, in whatever buffer
 pub build-promise : (table : List ℤ) (d : Descriptor) (index : List ℤ) → built table d index .0 .number ≡ pos 0
-    → IndexOf (firstNumber (d .kind) (d .lower)) (segmentsOf d table) (built table d index .1) × (lowerFits (firstNumber (d .kind) (d .lower)) ≡ true)
+    → IndexOf (firstNumber (d .kind) (d .lower)) (segmentsOf d table) (built table d index .1)
 build-promise table d index e =
     let a = build-accepts table d index e in
     let words = indexWords (firstNumber (d .kind) (d .lower)) (segmentsOf d table) in
-    (record { accepted = a .straight; rest = drop (length words) index; words = ap (λ (r : Result). r .1) (build-done table d index e) }, a .lower)
+    record { numbered = a .lower; accepted = a .straight; rest = drop (length words) index; words = ap (λ (r : Result). r .1) (build-done table d index e) }
 
 -- both together: from a builder that is done to what a query of its words promises
 pub build-then-query : (table : List ℤ) (d : Descriptor) (index : List ℤ) (w : Window) (numbers : List ℤ)
     → built table d index .0 .number ≡ pos 0 → badWindow w .given ≡ false → length (segmentsOf d table) ≤ length numbers
     → QueryPromise (firstNumber (d .kind) (d .lower)) (segmentsOf d table) w (queried (built table d index .1) w numbers)
 build-then-query table d index w numbers e good room =
-    let i = build-promise table d index e in
-    query-promise (firstNumber (d .kind) (d .lower)) (segmentsOf d table) w (built table d index .1) numbers (i .0) (i .1) good room
+    query-promise (firstNumber (d .kind) (d .lower)) (segmentsOf d table) w (built table d index .1) numbers (build-promise table d index e) good room

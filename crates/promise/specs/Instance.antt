@@ -31,7 +31,7 @@ unfolding filter positions
 accepted = record { size = omega arith; coordinates = refl; straight = refl }
 
 pub asked : Asked segments window (walkOf words window)
-asked = index-demands (pos 1) segments window words (record { accepted = accepted; rest = []; words = refl }) refl
+asked = index-demands (pos 1) segments window words (record { numbered = refl; accepted = accepted; rest = []; words = refl }) refl
 
 -- the point by its low end, then the two horizontals, then the vertical; 14 visits, of which demand 3 allows 91
 pub computed : walkOf words window ≡ walked (3 ∷ 0 ∷ 2 ∷ 1 ∷ []) 14
