@@ -15,7 +15,8 @@ use Rattle.lists.specs.Tests.{gate, gate-one, is-true, both, fail-left, yes-not
 use Rattle.lists.specs.Orders.{Order, Linear, upTo, ltZ-not, ltZ-up, ltZ-linear, ℤ-order, le-self, ltb-linear, by-linear, by-key}
 use Rattle.lists.specs.Every.{All, all-map, Sorted, sorted-map}
 use Rattle.lists.specs.Maps.{map-at, map-sorted}
-use Rattle.lists.specs.Filters.{filter-append, filter-all, filter-none, filter-same}
+use Rattle.lists.specs.Choosing.{filter-join}
+use Rattle.lists.specs.Filters.{filter-all, filter-none, filter-same}
 use Rattle.lists.specs.Counting.{count-cons, count-map, filter-length}
 use Rattle.lists.specs.Sorting.{InOrder, sort-count, sort-length, sort-sorted, unique}
 use Rattle.build_queue.specs.Taking.{without, without-count}
@@ -104,7 +105,7 @@ module _ (rs : List Segment) (axis : Axis) where
     module _ (ps : List ℕ) (cut : ℕ) (low : All (λ p. T (leZ (nearOf rs axis p) centre)) (take cut ps))
         (high : All (λ p. T (not (leZ (nearOf rs axis p) centre))) (drop cut ps)) where
       cut-filter : (q : ℕ → Bool) → filter q ps ≡ filter q (take cut ps) ++ filter q (drop cut ps)
-      cut-filter q = ap (filter q) (sym (take-append-drop cut ps)) ∙ filter-append q (take cut ps) (drop cut ps)
+      cut-filter q = ap (filter q) (sym (take-append-drop cut ps)) ∙ filter-join q (take cut ps) (drop cut ps)
 
       pub rights-end : rights rs axis centre ps ≡ drop cut ps
       rights-end =

@@ -1,8 +1,8 @@
--- Plain's `filter`: of two lists one after another, of a list that passes or fails as a whole, of a map, by a test that agrees.
--- Use: cut a list where a test turns (`filter-append`), then `filter-all` and `filter-none` for the pieces. Assumes nothing.
-use mathlib.Core.Path.{_≡_, refl, sym, ap, _∙_}
+-- Plain's `filter`: of a list that passes or fails as a whole, of a map, by a test that agrees.
+-- Use: cut a list where a test turns (Choosing's `filter-join`), then `filter-all` and `filter-none` for the pieces. Assumes nothing.
+use mathlib.Core.Path.{_≡_, refl, ap}
 use mathlib.Core.Bool.{Bool, true, false, not, cond}
-use mathlib.Core.List.{List, [], _∷_, _++_, map}
+use mathlib.Core.List.{List, [], _∷_, map}
 use lib.Dec.{T}
 use Rattle.lists.specs.Plain.{filter}
 use Rattle.lists.specs.Tests.{is-true, is-false}
@@ -16,15 +16,6 @@ module _ {A : Type 0} where
   pub filter-no : (q : A → Bool) (x : A) (l : List A) → q x ≡ false → filter q (x ∷ l) ≡ filter q l
   unfolding filter
   filter-no q x l h = rw h
-
-  pub filter-append : (q : A → Bool) (l m : List A) → filter q (l ++ m) ≡ filter q l ++ filter q m
-  unfolding filter
-  filter-append q [] m = refl
-  filter-append q (x ∷ l) m = go (q x) (filter-append q l m)
-    where
-      go : (b : Bool) → filter q (l ++ m) ≡ filter q l ++ filter q m → cond b (x ∷ filter q (l ++ m)) (filter q (l ++ m)) ≡ cond b (x ∷ filter q l) (filter q l) ++ filter q m
-      go true e = ap (λ t. x ∷ t) e
-      go false e = e
 
   pub filter-all : (q : A → Bool) {l : List A} → All (λ x. T (q x)) l → filter q l ≡ l
   unfolding filter

@@ -1,0 +1,2 @@
+-- The notions that the builder's contracts cite, and laws.
+pub mod Gathering
