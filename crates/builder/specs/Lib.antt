@@ -1,2 +1,4 @@
 -- The notions that the builder's contracts cite, and laws.
 pub mod Gathering
+pub mod Straight
+pub mod LevelRuns
