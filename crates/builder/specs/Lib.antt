@@ -2,3 +2,5 @@
 pub mod Gathering
 pub mod Straight
 pub mod LevelRuns
+pub mod Placing
+pub mod Whole
