@@ -10,7 +10,6 @@ use native.Mathlib.Omega.{arith}
 use lib.IntN.{ℤ, pos}
 use lib.ListN.{length, getD, set, length-set}
 use Rattle.lists.specs.Plain.{filter}
-use Rattle.lists.specs.Counting.{filter-length, count-le}
 use Rattle.lists.specs.Filters.{filter-yes, filter-no}
 use Rattle.lists.specs.Parts.{win, put, length-win, win-cons, win-set-after, put-step, put-nil}
 
@@ -22,7 +21,6 @@ module _ (wanted : ℤ → Bool) (s₀ : List ℤ) (from n to : ℕ) where
   pub record Going (s : List ℤ) (o i : ℕ) : Type 0 where
     pub within : i ≤ n
     pub above : to ≤ o
-    pub few : o ≤ to + i
     pub long : length s ≡ length s₀
     pub left : o + length (filter wanted (win (from + i) (n - i) s)) ≡ to + length among
     pub due : put o (filter wanted (win (from + i) (n - i) s)) s ≡ put to among s₀
@@ -30,9 +28,9 @@ module _ (wanted : ℤ → Bool) (s₀ : List ℤ) (from n to : ℕ) where
   pub begun : Going s₀ to 0
   begun =
       let z : n - 0 ≡ n = omega arith in
-      record { within = omega arith; above = omega arith; few = omega arith; long = refl; left = rw (add-zero from, z); due = rw (add-zero from, z) }
+      record { within = omega arith; above = omega arith; long = refl; left = rw (add-zero from, z); due = rw (add-zero from, z) }
 
-  module _ (apart : from + n ≤ to) (room : to + n ≤ length s₀) (s : List ℤ) (o i : ℕ) (g : Going s o i) where
+  module _ (apart : from + n ≤ to) (room : to + length among ≤ length s₀) (s : List ℤ) (o i : ℕ) (g : Going s o i) where
     abbrev x : ℤ
     x = getD s (from + i) (pos 0)
 
@@ -48,25 +46,27 @@ module _ (wanted : ℤ → Bool) (s₀ : List ℤ) (from n to : ℕ) where
           ∙ win-cons (from + i) (n - (i + 1)) (pos 0) s (omega (arith, g .long))
           ∙ ap (λ j. x ∷ win j (n - (i + 1)) s) (sym f)
 
-      pub place : o < length s
-      place = omega (arith, g .few, g .long)
+      with-next : wanted x ≡ true → filter wanted (win (from + i) (n - i) s) ≡ x ∷ filter wanted rest
+      with-next h = ap (filter wanted) next ∙ filter-yes wanted x rest h
+
+      pub place : wanted x ≡ true → o < length s
+      place h = omega (arith, g .left, ap length (with-next h), g .long)
 
       pub taken : wanted x ≡ true → Going (set s o x) (o + 1) (i + 1)
       taken h =
-          let same : win (from + (i + 1)) (n - (i + 1)) (set s o x) ≡ rest = win-set-after (from + (i + 1)) (n - (i + 1)) o x s (omega (arith, g .above)) place in
-          let is : filter wanted (win (from + i) (n - i) s) ≡ x ∷ filter wanted rest = ap (filter wanted) next ∙ filter-yes wanted x rest h in
+          let same : win (from + (i + 1)) (n - (i + 1)) (set s o x) ≡ rest = win-set-after (from + (i + 1)) (n - (i + 1)) o x s (omega (arith, g .above)) (place h) in
+          let is : filter wanted (win (from + i) (n - i) s) ≡ x ∷ filter wanted rest = with-next h in
           record {
             within = omega arith;
             above = omega (arith, g .above);
-            few = omega (arith, g .few);
             long = length-set s o x ∙ g .long;
             left = ap (λ w. o + 1 + length (filter wanted w)) same ∙ omega (arith, g .left, ap length is);
             due =
                 ap (λ w. put (o + 1) (filter wanted w) (set s o x)) same
                 ∙ ap (λ k. put k (filter wanted rest) (set s o x)) (add-one o)
-                ∙ sym (put-step o x (filter wanted rest) s place)
+                ∙ sym (put-step o x (filter wanted rest) s (place h))
                 ∙ ap (λ w. put o w s) (sym is)
-                ∙ g .due
+                ∙ g .due;
           }
 
       pub passed : wanted x ≡ false → Going s o (i + 1)
@@ -75,10 +75,9 @@ module _ (wanted : ℤ → Bool) (s₀ : List ℤ) (from n to : ℕ) where
           record {
             within = omega arith;
             above = g .above;
-            few = omega (arith, g .few);
             long = g .long;
             left = omega (arith, g .left, ap length is);
-            due = ap (λ w. put o w s) (sym is) ∙ g .due
+            due = ap (λ w. put o w s) (sym is) ∙ g .due;
           }
 
     ended : n ≤ i → filter wanted (win (from + i) (n - i) s) ≡ []

@@ -90,7 +90,7 @@ module _ (d : Descriptor) (table : List ℤ) (level : Tidy (recordsOf d table) h
     across-long : length (map pos A) ≡ h
     across-long = ap length (sym across-is) ∙ sym h-is
 
-    long₁ : length y₁ ≡ start + 8 * n
+    pub long₁ : length y₁ ≡ start + 8 * n
     long₁ =
         ap length is₁ ∙ ap (λ w. length (put start w s₀)) across-is ∙ length-put start (map pos A) s₀ (omega (arith, across-long, h-most)) ∙ long
 
@@ -109,6 +109,10 @@ module _ (d : Descriptor) (table : List ℤ) (level : Tidy (recordsOf d table) h
 
     along-is : filter (isUpright d table) (win 0 n y₁) ≡ map pos B
     along-is = ap (filter (isUpright d table)) first-run ∙ filter-map pos (isUpright d table) (slots rs (xOrder rs))
+
+    -- the second run has room behind the first block's words
+    pub along-room : middle + length (filter (isUpright d table) (win 0 n y₁)) ≤ length y₁
+    along-room = omega (arith, ap length along-is, length-map B pos, along-long, h-most, long₁)
 
     module _ (y₂ : List ℤ) (is₂ : y₂ ≡ put middle (filter (isUpright d table) (win 0 n y₁)) y₁) where
       along-words-long : length (map pos B) ≡ n - h
@@ -130,9 +134,10 @@ module _ (d : Descriptor) (table : List ℤ) (level : Tidy (recordsOf d table) h
           ∙ across-is
 
       pub across-run : (length (take (middle - start) (drop start y₂)) ≡ 8 * h) × Stands (Nearer rs horizontal) (win 0 h (take (middle - start) (drop start y₂)))
-      across-run =
-          ( part-length start (middle - start) y₂ (omega (arith, long₂, h-most)) ∙ omega arith
-          , stands (Nearer rs horizontal) _ A across-front (runs.across-stands d table))
+      across-run = (
+        part-length start (middle - start) y₂ (omega (arith, long₂, h-most)) ∙ omega arith,
+        stands (Nearer rs horizontal) _ A across-front (runs.across-stands d table),
+      )
 
       module _ (e₁ : List ℤ) (f₁ : e₁ ≡ blockWords rs horizontal (named (win 0 h (take (middle - start) (drop start y₂))))) where
         g₁ : e₁ ≡ blockWords rs horizontal (horizontals rs)
@@ -145,7 +150,7 @@ module _ (d : Descriptor) (table : List ℤ) (level : Tidy (recordsOf d table) h
         m₁ : length e₁ ≡ 8 * h
         m₁ = ap length g₁ ∙ block-length rs horizontal level (horizontals rs) ∙ ap (λ k. 8 * k) (sym h-size)
 
-        abbrev y₃ : List ℤ
+        abbrev pub y₃ : List ℤ
         y₃ = putMid start (middle - start) y₂ e₁
 
         is₃ : y₃ ≡ put start e₁ y₂
@@ -163,9 +168,10 @@ module _ (d : Descriptor) (table : List ℤ) (level : Tidy (recordsOf d table) h
             ∙ win-put-at middle (n - h) (map pos B) y₁ along-words-long (omega (arith, long₁, h-most))
 
         pub along-run : (length (take (length y₃ - middle) (drop middle y₃)) ≡ 8 * (n - h)) × Stands (Nearer rs vertical) (win 0 (n - h) (take (length y₃ - middle) (drop middle y₃)))
-        along-run =
-            ( part-length middle (length y₃ - middle) y₃ (omega (arith, long₃, h-most)) ∙ omega (arith, long₃, h-most)
-            , stands (Nearer rs vertical) _ B along-front (runs.along-stands d table))
+        along-run = (
+          part-length middle (length y₃ - middle) y₃ (omega (arith, long₃, h-most)) ∙ omega (arith, long₃, h-most),
+          stands (Nearer rs vertical) _ B along-front (runs.along-stands d table),
+        )
 
         module _ (e₂ : List ℤ) (f₂ : e₂ ≡ blockWords rs vertical (named (win 0 (n - h) (take (length y₃ - middle) (drop middle y₃))))) where
           g₂ : e₂ ≡ blockWords rs vertical (verticals rs)

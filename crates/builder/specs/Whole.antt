@@ -49,7 +49,7 @@ module _ (d : Descriptor) (table : List ℤ) (level : Tidy (recordsOf d table) h
   levels = 4 + 4 * n
 
   abbrev blocks : ℕ
-  blocks = levels + 2 * n * (deep + 1)
+  blocks = levels + 2 * n * deep + 2 * n
 
   abbrev end : ℕ
   end = blocks + 8 * n
@@ -60,8 +60,10 @@ module _ (d : Descriptor) (table : List ℤ) (level : Tidy (recordsOf d table) h
   R-long : length R ≡ 4 * n
   R-long = words-length rs ∙ ap (λ k. 4 * k) size
 
-  Lv-long : length Lv ≡ 2 * n * (deep + 1)
-  Lv-long = levels-long d table ∙ ap₂ (λ k e. 2 * k * (e + 1)) size (ap (λ k. L (k - 1)) size ∙ sym deep-is)
+  Lv-long : length Lv ≡ 2 * n * deep + 2 * n
+  Lv-long =
+      let k : 2 * n * (deep + 1) ≡ 2 * n * deep + 2 * n = omega arith in
+      levels-long d table ∙ ap₂ (λ k e. 2 * k * (e + 1)) size (ap (λ k. L (k - 1)) size ∙ sym deep-is) ∙ k
 
   B-long : length (blocksOf d table) ≡ 8 * n
   B-long =
@@ -70,8 +72,9 @@ module _ (d : Descriptor) (table : List ℤ) (level : Tidy (recordsOf d table) h
 
   pub fits : end ≤ length xs
   fits =
-      let w : end ≡ W (sizeOf d) = ap₂ (λ k e. 4 + 4 * k + 2 * k * (e + 1) + 8 * k) n-is (deep-is ∙ ap (λ k. L (k - 1)) n-is) in
-      omega (arith, room, w)
+      let k : end ≡ 4 + 4 * n + 2 * n * (deep + 1) + 8 * n = omega arith in
+      let w : 4 + 4 * n + 2 * n * (deep + 1) + 8 * n ≡ W (sizeOf d) = ap₂ (λ k e. 4 + 4 * k + 2 * k * (e + 1) + 8 * k) n-is (deep-is ∙ ap (λ k. L (k - 1)) n-is) in
+      omega (arith, room, k, w)
 
   module _ (y₁ y₂ : List ℤ) (is₁ : y₁ ≡ putMid 4 (levels - 4) xs R) (is₂ : y₂ ≡ putMid levels (blocks - levels) y₁ Lv) where
     at₁ : y₁ ≡ put 4 R xs
@@ -87,14 +90,12 @@ module _ (d : Descriptor) (table : List ℤ) (level : Tidy (recordsOf d table) h
     long₂ = ap length at₂ ∙ length-put levels Lv y₁ (omega (arith, Lv-long, long₁, fits)) ∙ long₁
 
     -- the levels stand at the front of the part that is lent next
-    pub levels-there : win 0 (blocks - levels) (take (end - levels) (drop levels y₂)) ≡ Lv
+    pub levels-there : win 0 (2 * n * deep + 2 * n) (take (end - levels) (drop levels y₂)) ≡ Lv
     unfolding win
     levels-there =
-        let k : blocks - levels ≡ 2 * n * (deep + 1) = omega arith in
-        take-take (blocks - levels) (end - levels) (drop levels y₂) (omega arith)
-        ∙ ap (λ i. win levels i y₂) k
-        ∙ ap (win levels (2 * n * (deep + 1))) at₂
-        ∙ win-put-at levels (2 * n * (deep + 1)) Lv y₁ Lv-long (omega (arith, long₁, fits))
+        take-take (2 * n * deep + 2 * n) (end - levels) (drop levels y₂) (omega arith)
+        ∙ ap (win levels (2 * n * deep + 2 * n)) at₂
+        ∙ win-put-at levels (2 * n * deep + 2 * n) Lv y₁ Lv-long (omega (arith, long₁, fits))
 
     module _ (y₃ : List ℤ) (is₃ : y₃ ≡ putMid levels (end - levels) y₂ (Lv ++ blocksOf d table)) where
       abbrev LvB : List ℤ

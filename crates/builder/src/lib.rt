@@ -14,12 +14,13 @@ ghost use Rattle.paper.specs.Words.{L, horizontals, levelsWords, indexWords};
 ghost use Rattle.records.specs.Records.{Readable, recordsOf};
 ghost use Rattle.builder.specs.Placing.{isLevel, isUpright, blocksOf};
 ghost use Rattle.builder.specs.Whole.{Accepted};
-
-use paper::Descriptor;
 use build_block::block;
 use build_queue::Ends;
-use levels::{all_levels, write_records};
-use records::{as_word, field};
+use levels::all_levels;
+use levels::write_records;
+use paper::Descriptor;
+use records::as_word;
+use records::field;
 
 // Whether the record of the position that p stands for is horizontal.
 fn is_level(table: &[i32], d: Descriptor, p: i32) -> bool
@@ -44,9 +45,17 @@ fn belongs(table: &[i32], d: Descriptor, upright: bool, p: i32) -> bool
 }
 
 // Those of the n position words at `from` that belong to a block, in their order, at the place `to` after them. Returns their count.
-fn gather(table: &[i32], d: Descriptor, upright: bool, part: &mut [i32], from: usize, n: usize, to: usize) -> usize
+fn gather(
+    table: &[i32],
+    d: Descriptor,
+    upright: bool,
+    part: &mut [i32],
+    from: usize,
+    n: usize,
+    to: usize,
+) -> usize
     requires { ⌜ Readable (now table) d ⌝ }
-    requires { ⌜ (from + n ≤ to) × (to + n ≤ length (now part)) ⌝ }
+    requires { ⌜ (from + n ≤ to) × (to + length (filter (λ z. cond upright (isUpright d (now table) z) (isLevel d (now table) z)) (win from n (now part))) ≤ length (now part)) ⌝ }
     ensures { λ r. ⌜ r ≡ length (filter (λ z. cond upright (isUpright d (now (table .entry)) z) (isLevel d (now (table .entry)) z)) (win from n (now (part .entry)))) ⌝ }
     ensures { λ _. ⌜ now (part .exit) ≡ put to (filter (λ z. cond upright (isUpright d (now (table .entry)) z) (isLevel d (now (table .entry)) z)) (win from n (now (part .entry)))) (now (part .entry)) ⌝ }
 {
@@ -75,8 +84,28 @@ fn write_blocks(table: &[i32], d: Descriptor, part: &mut [i32], n: usize, last: 
     let h = gather(table, d, false, part, last, n, start);
     let middle = start + 8 * h;
     gather(table, d, true, part, 0, n, middle);
-    block(table, Ends { near: 0, far: 2, level: 1, d: d }, &mut part[start..middle], h);
-    block(table, Ends { near: 1, far: 3, level: 0, d: d }, &mut part[middle..], n - h);
+    block(
+        table,
+        Ends {
+            near: 0,
+            far: 2,
+            level: 1,
+            d: d,
+        },
+        &mut part[start..middle],
+        h,
+    );
+    block(
+        table,
+        Ends {
+            near: 1,
+            far: 3,
+            level: 0,
+            d: d,
+        },
+        &mut part[middle..],
+        n - h,
+    );
     h
 }
 

@@ -57,19 +57,19 @@ module _ (c : tie.After-belongs Inv-loop μ-loop) where
   test : c .belongs .result ≡ wanted st x
   test = rw word at (c .belongs .ensures)
 
-  room : l .loop .o < length (l .loop .part)
-  room =
+  room : c .belongs .result ≡ true → l .loop .o < length (l .loop .part)
+  room h =
       place (wanted st) (st .args .part .now) (st .args .from) (st .args .n) (st .args .to) (st .pre .1 .0) (st .pre .1 .1) (l .loop .part) (l .loop .o) (l .loop .i) (l .loop .inv)
-      (c .before .before .loop-test .taken)
+      (c .before .before .loop-test .taken) (sym test ∙ h)
 
 mul-p-2 : tie.Need-mul-p-2 Inv-loop μ-loop
-mul-p-2 c = omega (arith, room (c .before))
+mul-p-2 c = omega (arith, room (c .before) (c .if1 .taken))
 
 slice-set-from-p : tie.Need-slice-set-from-p Inv-loop μ-loop
-slice-set-from-p c = omega (arith, room (c .before))
+slice-set-from-p c = omega (arith, room (c .before) (c .if1 .taken))
 
 add-o : tie.Need-add-o Inv-loop μ-loop
-add-o c = omega (arith, room (c .before))
+add-o c = omega (arith, room (c .before) (c .if1 .taken))
 
 add-i : tie.Need-add-i Inv-loop μ-loop
 add-i c = omega arith
@@ -102,9 +102,10 @@ same-length c = c .before .loop .inv .long
 returns : tie.Need-returns Inv-loop μ-loop
 returns c =
     let s = c .before .before in
-    let v = c .before .loop in
-    (end-count (wanted s) (s .args .part .now) (s .args .from) (s .args .n) (s .args .to) (s .pre .1 .0) (s .pre .1 .1) (v .part) (v .o) (v .i) (v .inv) (c .loop-test .left)
-    , end-list (wanted s) (s .args .part .now) (s .args .from) (s .args .n) (s .args .to) (s .pre .1 .0) (s .pre .1 .1) (v .part) (v .o) (v .i) (v .inv) (c .loop-test .left))
+    let v = c .before .loop in (
+      end-count (wanted s) (s .args .part .now) (s .args .from) (s .args .n) (s .args .to) (s .pre .1 .0) (s .pre .1 .1) (v .part) (v .o) (v .i) (v .inv) (c .loop-test .left),
+      end-list (wanted s) (s .args .part .now) (s .args .from) (s .args .n) (s .args .to) (s .pre .1 .0) (s .pre .1 .1) (v .part) (v .o) (v .i) (v .inv) (c .loop-test .left),
+    )
 
 pub gather-spec : {M : Type 1} → statement M
 gather-spec =

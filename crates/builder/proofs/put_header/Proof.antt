@@ -61,7 +61,7 @@ returns c =
       kept w32 (w₃ .result) (w₃ .ok),
       w₃ .ensures,
     )
-        (first-four (a .index .now) _ _ _ _ (s .pre .0))
+    (first-four (a .index .now) _ _ _ _ (s .pre .0))
 
 pub put-header-spec : {M : Type 1} → statement M
 put-header-spec =

@@ -1,86 +1,200 @@
+-- `builder::write_blocks` meets its contract. Assumes nothing.
 use borrow.Author.Needs.{needs}
+use mathlib.Core.Path.{_≡_, refl, sym, ap, _∙_}
+use mathlib.Core.List.{List}
+use Prim.Native.Nat.{ℕ, _+_, _-_, _*_, _≤_, _<_}
+use native.Mathlib.Omega.{arith}
+use lib.IntN.{ℤ}
+use lib.ListN.{length}
+use Rattle.lists.specs.Plain.{filter}
+use Rattle.lists.specs.Parts.{win, put}
+use Rattle.paper.specs.Words.{horizontal, vertical}
+use Rattle.paper.specs.declared.Descriptor.{Descriptor}
+use Rattle.records.specs.Records.{recordsOf}
+use Rattle.records.specs.Reading.{records-length, size-most}
+use Rattle.build_block.specs.Sides.{Tidy}
+use Rattle.builder.specs.Straight.{level-tidy, upright-tidy}
+use Rattle.builder.specs.Placing.{isLevel}
+use Rattle.builder.specs.Placing as placing
 use Rattle.builder.proofs.write_blocks.Statement.{statement}
 use Rattle.builder.proofs.write_blocks.Tie as tie
-use Rattle.builder.proofs.write_blocks.Reads as reads
-use Rattle.builder.proofs.write_blocks.Lts as lts
-use Rattle.build_block.proofs.block.Reads as block-reads
-use Rattle.builder.proofs.gather.Reads as gather-reads
 
--- src/lib.rt:74:24
+-- the function's arguments by name
+module _ (s : tie.Start) where
+  abbrev d : Descriptor
+  d = s .args .d
+
+  abbrev table : List ℤ
+  table = s .args .table .now
+
+  abbrev n : ℕ
+  n = s .args .n
+
+  abbrev last : ℕ
+  last = s .args .last
+
+  abbrev s₀ : List ℤ
+  s₀ = s .args .part .now
+
+  level : Tidy (recordsOf d table) horizontal
+  level = level-tidy table d (s .pre .0)
+
+  upright : Tidy (recordsOf d table) vertical
+  upright = upright-tidy table d (s .pre .0)
+
+  size : length (recordsOf d table) ≡ n
+  size = records-length d table ∙ sym (s .pre .1 .0)
+
+  few : n ≤ 4096
+  few = omega (arith, s .pre .1 .0, size-most d (s .pre .0 .extent))
+
+  long : length s₀ ≡ last + 2 * n + 8 * n
+  long = s .pre .1 .2
+
+  abbrev run : List ℤ
+  run = filter (isLevel d table) (win last n s₀)
+
+  run-most : length run ≤ n
+  run-most = placing.h-most d table level upright n last s₀ size (s .pre .1 .1) long (s .pre .1 .3) (length run) (put (last + 2 * n) run s₀) refl refl
+
 mul-start : tie.Need-mul-start
 mul-start c = search needs
 
--- src/lib.rt:74:17
 add-start : tie.Need-add-start
 add-start c = search needs
 
--- src/lib.rt:75:9
 gather-requires : tie.Need-gather-requires
-gather-requires c κs = search needs
+gather-requires c κs =
+    let s = c .before in
+    (s .pre .0, (omega arith, omega (arith, run-most s, long s)))
 
--- src/lib.rt:76:26
+-- once the horizontals are gathered
+module _ (g : tie.After-gather) where
+  abbrev st : tie.Start
+  st = g .before .before
+
+  abbrev h : ℕ
+  h = g .gather .result
+
+  abbrev y₁ : List ℤ
+  y₁ = g .gather .last .1 .1 .1 .0
+
+  h-most : h ≤ n st
+  h-most =
+      placing.h-most (d st) (table st) (level st) (upright st) (n st) (last st) (s₀ st) (size st) (st .pre .1 .1) (long st) (st .pre .1 .3) h y₁ (g .gather .ensures .0) (g .gather .ensures .1)
+
 mul-middle : tie.Need-mul-middle
-mul-middle c = ?
+mul-middle c = let g = c .before in omega (arith, h-most g, long (st g), st g .good)
 
--- src/lib.rt:76:18
 add-middle : tie.Need-add-middle
-add-middle c = ?
+add-middle c = let g = c .before in omega (arith, h-most g, long (st g), st g .good)
 
--- src/lib.rt:77:5
 gather-requires-2 : tie.Need-gather-requires-2
-gather-requires-2 c κs = ?
+gather-requires-2 c κs =
+    let g = c .before .before in
+    let s = st g in (
+      s .pre .0,
+      (
+        omega arith,
+        placing.along-room (d s) (table s) (level s) (upright s) (n s) (last s) (s₀ s) (size s) (s .pre .1 .1) (long s) (s .pre .1 .3) (h g) (y₁ g) (g .gather .ensures .0) (g .gather .ensures .1),
+      ),
+    )
 
--- src/lib.rt:78:60
+-- once both are
+module _ (q : tie.After-gather2) where
+  abbrev gq : tie.After-gather
+  gq = q .before .before .before
+
+  abbrev sq : tie.Start
+  sq = st gq
+
+  abbrev y₂ : List ℤ
+  y₂ = q .gather2 .last .1 .1 .1 .0
+
+  long₂ : length y₂ ≡ last sq + 2 * n sq + 8 * n sq
+  long₂ =
+      placing.long₂ (d sq) (table sq) (level sq) (upright sq) (n sq) (last sq) (s₀ sq) (size sq) (sq .pre .1 .1) (long sq) (sq .pre .1 .3) (h gq) (y₁ gq) (gq .gather .ensures .0) (gq .gather .ensures .1) y₂
+      (q .gather2 .ensures .1)
+
 mul-block : tie.Need-mul-block
 mul-block c = search needs
 
--- src/lib.rt:78:60
 sub-block : tie.Need-sub-block
 sub-block c = search needs
 
--- src/lib.rt:78:60
 part-block-start : tie.Need-part-block-start
 part-block-start c = search needs
 
--- src/lib.rt:78:60
 part-block-end : tie.Need-part-block-end
-part-block-end c = ?
+part-block-end c = let q = c .before in omega (arith, long₂ q, h-most (gq q))
 
--- src/lib.rt:78:5
 block-requires : tie.Need-block-requires
-block-requires c κs = ?
+block-requires c κs =
+    let q = c .before .before in
+    let g = gq q in
+    let s = sq q in
+    let r =
+    placing.across-run (d s) (table s) (level s) (upright s) (n s) (last s) (s₀ s) (size s) (s .pre .1 .1) (long s) (s .pre .1 .3) (h g) (y₁ g) (g .gather .ensures .0) (g .gather .ensures .1) (y₂ q)
+    (q .gather2 .ensures .1) in
+    (s .pre .0, (level s, (r .0, omega (arith, h-most g, few s), r .1)))
 
--- src/lib.rt:79:60
+-- once the first block is built
+module _ (b : tie.After-block) where
+  abbrev qb : tie.After-gather2
+  qb = b .before .before .before
+
+  abbrev gb : tie.After-gather
+  gb = gq qb
+
+  abbrev sb : tie.Start
+  sb = sq qb
+
+  abbrev e₁ : List ℤ
+  e₁ = b .block .last .1 .1 .0
+
+  long₃ : length (placing.y₃ (d sb) (table sb) (level sb) (upright sb) (n sb) (last sb) (s₀ sb) (size sb) (sb .pre .1 .1) (long sb) (sb .pre .1 .3) (h gb) (y₁ gb) (gb .gather .ensures .0) (gb .gather .ensures .1) (y₂ qb)
+      (qb .gather2 .ensures .1) e₁ (b .block .ensures))
+      ≡ last sb + 2 * n sb + 8 * n sb
+  long₃ =
+      placing.long₃ (d sb) (table sb) (level sb) (upright sb) (n sb) (last sb) (s₀ sb) (size sb) (sb .pre .1 .1) (long sb) (sb .pre .1 .3) (h gb) (y₁ gb) (gb .gather .ensures .0) (gb .gather .ensures .1) (y₂ qb)
+      (qb .gather2 .ensures .1) e₁ (b .block .ensures)
+
 mul-block-2 : tie.Need-mul-block-2
-mul-block-2 c = ?
+mul-block-2 c = let b = c .before in omega (arith, long₃ b, h-most (gb b), long (sb b), sb b .good)
 
--- src/lib.rt:79:60
 sub-block-2 : tie.Need-sub-block-2
-sub-block-2 c = ?
+sub-block-2 c = let b = c .before in omega (arith, long₃ b, h-most (gb b))
 
--- src/lib.rt:79:60
 part-block-start-2 : tie.Need-part-block-start-2
-part-block-start-2 c = ?
+part-block-start-2 c = let b = c .before in omega (arith, long₃ b, h-most (gb b))
 
--- src/lib.rt:79:60
 part-block-end-2 : tie.Need-part-block-end-2
 part-block-end-2 c = search needs
 
--- src/lib.rt:79:81
 sub-block-3 : tie.Need-sub-block-3
-sub-block-3 c = ?
+sub-block-3 c = omega (arith, h-most (gb (c .before .before)))
 
--- src/lib.rt:79:5
 block-requires-2 : tie.Need-block-requires-2
-block-requires-2 c κs = ?
+block-requires-2 c κs =
+    let b = c .before .before in
+    let s = sb b in
+    let r =
+    placing.along-run (d s) (table s) (level s) (upright s) (n s) (last s) (s₀ s) (size s) (s .pre .1 .1) (long s) (s .pre .1 .3) (h (gb b)) (y₁ (gb b)) (gb b .gather .ensures .0) (gb b .gather .ensures .1) (y₂ (qb b))
+    (qb b .gather2 .ensures .1) (e₁ b) (b .block .ensures) in
+    (s .pre .0, (upright s, (r .0, omega (arith, few s), r .1)))
 
--- src/lib.rt:68:1
 same-length : tie.Need-same-length
 same-length c = search needs
 
--- src/lib.rt:68:1
 returns : tie.Need-returns
-returns c = ?
+returns c =
+    let e = c .before in
+    let b = e .before .before .before in
+    let s = sb b in (
+      placing.h-size (d s) (table s) (level s) (upright s) (n s) (last s) (s₀ s) (size s) (s .pre .1 .1) (long s) (s .pre .1 .3) (h (gb b)) (y₁ (gb b)) (gb b .gather .ensures .0) (gb b .gather .ensures .1),
+      placing.placed (d s) (table s) (level s) (upright s) (n s) (last s) (s₀ s) (size s) (s .pre .1 .1) (long s) (s .pre .1 .3) (h (gb b)) (y₁ (gb b)) (gb b .gather .ensures .0) (gb b .gather .ensures .1) (y₂ (qb b))
+          (qb b .gather2 .ensures .1) (e₁ b) (b .block .ensures) (e .block2 .last .1 .1 .0) (e .block2 .ensures),
+    )
 
 pub write-blocks-spec : {M : Type 1} → statement M
 write-blocks-spec =
