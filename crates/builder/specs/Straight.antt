@@ -16,7 +16,7 @@ use Rattle.paper.specs.Descriptor.{cellOf, sizeOf}
 use Rattle.paper.specs.Words.{horizontal, vertical}
 use Rattle.paper.specs.declared.Descriptor.{Descriptor}
 use Rattle.records.specs.Records.{recordsOf, wordAt, Readable}
-use Rattle.records.specs.Reading.{columnOf, word-is, record-none}
+use Rattle.records.specs.Reading.{word-is, record-none, straight-at}
 use Rattle.build_block.specs.Sides.{Tidy}
 
 -- the smaller and the greater of two
@@ -38,7 +38,7 @@ module _ (table : List ℤ) (d : Descriptor) (readable : Readable table d) where
   level-tidy p = go (decLt p (sizeOf d))
     where
       go : Dec (p < sizeOf d) → T (leZ (wordAt table d (pos p) 0) (wordAt table d (pos p) 2))
-      go (yes h) = subst T (ap₂ leZ (word-is table d p 0 h (readable .straight p h)) (word-is table d p 2 h (readable .straight p h))) (low-high (cell p 0) (cell p 2))
+      go (yes h) = subst T (ap₂ leZ (word-is table d p 0 h (straight-at table d readable p h)) (word-is table d p 2 h (straight-at table d readable p h))) (low-high (cell p 0) (cell p 2))
       go (no h) = beyond p 0 2 (omega arith)
 
   pub upright-tidy : Tidy (recordsOf d table) vertical
@@ -46,5 +46,5 @@ module _ (table : List ℤ) (d : Descriptor) (readable : Readable table d) where
   upright-tidy p = go (decLt p (sizeOf d))
     where
       go : Dec (p < sizeOf d) → T (leZ (wordAt table d (pos p) 1) (wordAt table d (pos p) 3))
-      go (yes h) = subst T (ap₂ leZ (word-is table d p 1 h (readable .straight p h)) (word-is table d p 3 h (readable .straight p h))) (low-high (cell p 1) (cell p 3))
+      go (yes h) = subst T (ap₂ leZ (word-is table d p 1 h (straight-at table d readable p h)) (word-is table d p 3 h (straight-at table d readable p h))) (low-high (cell p 1) (cell p 3))
       go (no h) = beyond p 1 3 (omega arith)

@@ -1,7 +1,6 @@
 -- `builder::build_words` meets its contract. Assumes nothing.
 use borrow.Author.Needs.{needs}
 use mathlib.Core.Path.{_≡_, refl, sym, ap, ap₂, subst, _∙_}
-use mathlib.Core.Bool.{not}
 use mathlib.Core.List.{List, [], _∷_, _++_, map}
 use Prim.Native.Nat.{ℕ, _+_, _-_, _*_, _≤_, _<_}
 use native.Mathlib.Omega.{arith}
@@ -21,7 +20,7 @@ use Rattle.paper.specs.Words.{L, recordOf, levelsWords, horizontals, verticals,
 use Rattle.paper.specs.declared.Descriptor.{Descriptor}
 use Rattle.paper.specs.declared.Segment.{Segment}
 use Rattle.records.specs.Records.{recordsOf}
-use Rattle.records.specs.Reading.{records-length, size-most}
+use Rattle.records.specs.Reading.{records-length}
 use Rattle.table.specs.Rows.{first-bounds}
 use Rattle.build_block.specs.Sides.{Tidy}
 use Rattle.builder.specs.Straight.{level-tidy, upright-tidy}
@@ -36,7 +35,7 @@ unfolding win
 part-length i k xs h = length-win i k xs h
 
 count-requires : tie.Need-count-requires
-count-requires c κs = ap not (c .pre .readable .extent)
+count-requires c κs = c .pre .readable .held .extent
 
 depth-requires : tie.Need-depth-requires
 depth-requires c κs = search needs

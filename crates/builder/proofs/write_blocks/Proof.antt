@@ -4,14 +4,15 @@ use mathlib.Core.Path.{_≡_, refl, sym, ap, _∙_}
 use mathlib.Core.List.{List}
 use Prim.Native.Nat.{ℕ, _+_, _-_, _*_, _≤_, _<_}
 use native.Mathlib.Omega.{arith}
-use lib.IntN.{ℤ}
+use lib.IntN.{ℤ, pos}
 use lib.ListN.{length}
 use Rattle.lists.specs.Plain.{filter}
 use Rattle.lists.specs.Parts.{win, put}
 use Rattle.paper.specs.Words.{horizontal, vertical}
 use Rattle.paper.specs.declared.Descriptor.{Descriptor}
+use Rattle.table.specs.Rows.{held-size}
 use Rattle.records.specs.Records.{recordsOf}
-use Rattle.records.specs.Reading.{records-length, size-most}
+use Rattle.records.specs.Reading.{records-length}
 use Rattle.build_block.specs.Sides.{Tidy}
 use Rattle.builder.specs.Straight.{level-tidy, upright-tidy}
 use Rattle.builder.specs.Placing.{isLevel}
@@ -46,7 +47,7 @@ module _ (s : tie.Start) where
   size = records-length d table ∙ sym (s .pre .1 .0)
 
   few : n ≤ 4096
-  few = omega (arith, s .pre .1 .0, size-most d (s .pre .0 .extent))
+  few = omega (arith, s .pre .1 .0, held-size (pos (length table)) d (s .pre .0 .held))
 
   long : length s₀ ≡ last + 2 * n + 8 * n
   long = s .pre .1 .2
