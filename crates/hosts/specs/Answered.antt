@@ -1,8 +1,11 @@
 -- What C hosts get, from the tests along the orders.
 use mathlib.Core.Path.{_≡_, refl, sym, ap, _∙_}
 use mathlib.Core.Bool.{Bool, true, false, not, _||_, cond}
-use mathlib.Core.List.{[], _∷_}
+use mathlib.Core.List.{List, [], _∷_}
 use Prim.Native.Nat.{_≤_, _<_}
+use mir.Syntax.{w64}
+use mir.Val.{SFits, toZ, ofZ}
+use mir.ValLaws.{toZ-ofZ}
 use lib.IntN.{ℤ, pos, negsuc}
 use lib.Signed.{_≤ℤ_, _<ℤ_, leZ, ltZ}
 use borrow.Author.Tests.{not-false}
@@ -15,6 +18,7 @@ use Rattle.paper.specs.Answers.{answer, answerAt, badExtent, badCells, badPlace
 use Rattle.paper.specs.Orders.{cellOrder}
 use Rattle.paper.specs.Words.{W}
 use Rattle.paper.specs.Corners.{weighed}
+use Rattle.paper.specs.Results.{Result}
 use Rattle.paper.specs.Hosts.{refusedToC, addressing, hostCell, hostWords, hostMeet, HostMeet}
 use Rattle.paper.specs.declared.Descriptor.{Descriptor}
 use Rattle.paper.specs.declared.Segment.{Segment}
@@ -26,6 +30,28 @@ use Rattle.meeting.specs.Determined.{tested, decided, tested-is}
 -- the reply that a host gets, as `paper` has it
 abbrev pub replyOf : HostReply → Reply
 replyOf r = record { number = r .number; count = r .count; visits = r .visits; position = r .position }
+
+abbrev pub descriptorOf : (kind base lower n segment coordinate : ℤ) → Descriptor
+descriptorOf kind base lower n segment coordinate = record { kind = kind; base = base; lower = lower; extent = n; «segment_stride» = segment; «coordinate_stride» = coordinate }
+
+abbrev pub windowOf : (a b c d : ℤ) → Window
+windowOf a b c d = record { a = a; b = b; c = c; d = d }
+
+abbrev through : ℤ → ℤ
+through z = toZ w64 (ofZ w64 z)
+
+-- a fact of what a call returned and left in the cells, for the arguments that were made for it, is one of what the host gets, for what it gave
+pub for-host : {r : HostReply} {s : Reply} {cells : List ℤ} {A : Type 0} {x y : A} (P : A → Result → Type 0) → replyOf r ≡ s → x ≡ y → P x (s, cells) → P y (replyOf r, cells)
+for-host P same e h = rw (same, sym e) h
+
+-- numbers that fit 64 bits are what they were after they went through them
+module _ {k b l n s c : ℤ} (fk : SFits w64 k) (fb : SFits w64 b) (fl : SFits w64 l) (fn : SFits w64 n) (fs : SFits w64 s) (fc : SFits w64 c) where
+  pub descriptor-given : descriptorOf (through k) (through b) (through l) (through n) (through s) (through c) ≡ descriptorOf k b l n s c
+  descriptor-given = rw (toZ-ofZ w64 k fk, toZ-ofZ w64 b fb, toZ-ofZ w64 l fl, toZ-ofZ w64 n fn, toZ-ofZ w64 s fs, toZ-ofZ w64 c fc) refl
+
+module _ {a b c d : ℤ} (fa : SFits w64 a) (fb : SFits w64 b) (fc : SFits w64 c) (fd : SFits w64 d) where
+  pub window-given : windowOf (through a) (through b) (through c) (through d) ≡ windowOf a b c d
+  window-given = rw (toZ-ofZ w64 a fa, toZ-ofZ w64 b fb, toZ-ofZ w64 c fc, toZ-ofZ w64 d fd) refl
 
 -- ---- a cell
 abbrev pub cellAnswer : ℤ → Descriptor → ℤ → ℤ → ℤ

@@ -1,10 +1,12 @@
-// What C hosts call: three answers on plain numbers, a refusal as its negative, and the scan and the query on lent buffers. Each is a few lines over the crates below.
+// What C hosts call: three answers on plain numbers, a refusal as its negative, and the scan and the query on lent buffers.
+// Each is a few lines over the crates below; include/kalinosz.h tells C of them.
 ghost use mathlib.Core.Path.{_≡_};
 ghost use Rattle.paper.specs.Answers.{badPlace};
 ghost use Rattle.paper.specs.Hosts.{hostCell, hostWords, HostMeet};
 ghost use Rattle.paper.specs.Results.{Scanned, queried};
 ghost use Rattle.hosts.specs.Answered.{cellAnswer, replyOf};
 use paper::Descriptor;
+use paper::Reply;
 use paper::Segment;
 use paper::Window;
 
@@ -93,6 +95,17 @@ fn meet_answer(segment: Segment, window: Window) -> i64
     0
 }
 
+fn window_of(a: i64, b: i64, c: i64, d: i64) -> Window
+    ensures { λ r. ⌜ r ≡ record { a = a; b = b; c = c; d = d } ⌝ }
+{
+    Window {
+        a: a,
+        b: b,
+        c: c,
+        d: d,
+    }
+}
+
 #[no_mangle]
 pub extern "C" fn kalinosz_meets(
     x1: i64,
@@ -112,16 +125,41 @@ pub extern "C" fn kalinosz_meets(
         x2: x2,
         y2: y2,
     };
-    let window = Window {
-        a: a,
-        b: b,
-        c: c,
-        d: d,
-    };
-    meet_answer(segment, window)
+    meet_answer(segment, window_of(a, b, c, d))
 }
 
-// ---- the scan on lent buffers: each array is followed by its count of elements
+// ---- calls on lent buffers: each array is followed by its count of elements
+
+fn described(
+    kind: i64,
+    base: i64,
+    lower: i64,
+    n: i64,
+    segment_stride: i64,
+    coordinate_stride: i64,
+) -> Descriptor
+    ensures { λ r. ⌜ r ≡ record { kind = kind; base = base; lower = lower; extent = n; «segment_stride» = «segment_stride»; «coordinate_stride» = «coordinate_stride» } ⌝ }
+{
+    Descriptor {
+        kind: kind,
+        base: base,
+        lower: lower,
+        extent: n,
+        segment_stride: segment_stride,
+        coordinate_stride: coordinate_stride,
+    }
+}
+
+fn to_host(reply: Reply) -> HostReply
+    ensures { λ r. ⌜ replyOf r ≡ reply ⌝ }
+{
+    HostReply {
+        number: reply.number,
+        count: reply.count,
+        visits: reply.visits,
+        position: reply.position,
+    }
+}
 
 #[no_mangle]
 pub extern "C" fn kalinosz_scan(
@@ -142,30 +180,10 @@ pub extern "C" fn kalinosz_scan(
         (record { kind = kind; base = base; lower = lower; extent = n; «segment_stride» = «segment_stride»; «coordinate_stride» = «coordinate_stride» })
         (record { a = a; b = b; c = c; d = d }) (now (numbers .entry)) (replyOf r, now (numbers .exit)) ⌝ }
 {
-    let descriptor = Descriptor {
-        kind: kind,
-        base: base,
-        lower: lower,
-        extent: n,
-        segment_stride: segment_stride,
-        coordinate_stride: coordinate_stride,
-    };
-    let window = Window {
-        a: a,
-        b: b,
-        c: c,
-        d: d,
-    };
-    let reply = marks::scan(table, descriptor, window, numbers);
-    HostReply {
-        number: reply.number,
-        count: reply.count,
-        visits: reply.visits,
-        position: reply.position,
-    }
+    let descriptor = described(kind, base, lower, n, segment_stride, coordinate_stride);
+    let window = window_of(a, b, c, d);
+    to_host(marks::scan(table, descriptor, window, numbers))
 }
-
-// ---- the query on lent buffers
 
 #[no_mangle]
 pub extern "C" fn kalinosz_query(
@@ -178,17 +196,5 @@ pub extern "C" fn kalinosz_query(
 ) -> HostReply
     ensures { λ r. ⌜ (replyOf r, now (numbers .exit)) ≡ queried (now (index .entry)) (record { a = a; b = b; c = c; d = d }) (now (numbers .entry)) ⌝ }
 {
-    let window = Window {
-        a: a,
-        b: b,
-        c: c,
-        d: d,
-    };
-    let reply = marks::query(index, window, numbers);
-    HostReply {
-        number: reply.number,
-        count: reply.count,
-        visits: reply.visits,
-        position: reply.position,
-    }
+    to_host(marks::query(index, window_of(a, b, c, d), numbers))
 }
