@@ -11,7 +11,7 @@ use lib.Signed.{leZ, ltZ}
 use Rattle.lists.specs.Plain.{half}
 use Rattle.paper.specs.Walk.{Event, spoiled, word, recordAt, when, asPosition, asCount, byEnds, countWord}
 use Rattle.paper.specs.declared.Window.{Window}
-use Rattle.tally.specs.Reads.{orElse, is-position, no-position, is-count, count-above, count-beyond, count-leaves, lt-not}
+use Rattle.tally.specs.Reads.{orElse, is-position, no-position, is-count, count-above, count-beyond, count-leaves, le-not}
 use Rattle.nodes.specs.declared.Ends.{Ends}
 use Rattle.nodes.specs.declared.Ends.the-variants.{Bad, Out, In, Across}
 
@@ -56,39 +56,39 @@ module _ (ws : List ℤ) (n : ℕ) (w : Window) (size z : ℕ) where
         -- the four tests as the code makes them
         tested : (slots below : List Event)
             → asPosition n (word ws z) (λ f. asPosition n (word ws (z + size - 1)) (λ l. byEnds w (recordAt ws f .x1) (recordAt ws l .x1) slots below))
-            ≡ when (not (not (leZ (w .a) lx) || not (leZ fx (w .b)))) (cond (leZ (w .a) fx && leZ lx (w .b)) slots below)
+            ≡ when (not (ltZ lx (w .a) || ltZ (w .b) fx)) (cond (not (ltZ fx (w .a)) && not (ltZ (w .b) lx)) slots below)
         tested slots below =
             is-position n first (word ws z) ef _ hf
             ∙ is-position n last (word ws (z + size - 1)) el _ hl
-            ∙ ap₂ (λ (s t : Bool). when (not (s || t)) (cond (leZ (w .a) fx && leZ lx (w .b)) slots below)) (lt-not lx (w .a)) (lt-not (w .b) fx)
+            ∙ ap₂ (λ (s t : Bool). when (not (ltZ lx (w .a) || ltZ (w .b) fx)) (cond (s && t) slots below)) (le-not (w .a) fx) (le-not lx (w .b))
 
         single : size ≤ 1 → 0 < size → first ≡ last
         single h g = let e : z ≡ z + size - 1 = omega arith in ef ∙ ap (λ (i : ℕ). orElse n (word ws i)) e ∙ sym el
 
-        pub ends-left : false ≡ leZ (w .a) lx → Ended Out
+        pub ends-left : ltZ lx (w .a) ≡ true → Ended Out
         ends-left a = record {
-          told = λ slots below. tested slots below ∙ ap (λ (s : Bool). when (not (not s || not (leZ fx (w .b)))) (cond (leZ (w .a) fx && leZ lx (w .b)) slots below)) (sym a);
+          told = λ slots below. tested slots below ∙ ap (λ (s : Bool). when (not (s || ltZ (w .b) fx)) (cond (not (ltZ fx (w .a)) && not (ltZ (w .b) lx)) slots below)) a;
           many = λ e. absurd (no e);
         }
           where
             no : Out ≡ Across → ⊥
             no e = let q : _≡_ {A = ℕ} 0 1 = cc in omega arith
 
-        module _ (a : true ≡ leZ (w .a) lx) where
-          pub ends-right : false ≡ leZ fx (w .b) → Ended Out
+        module _ (a : ltZ lx (w .a) ≡ false) where
+          pub ends-right : ltZ (w .b) fx ≡ true → Ended Out
           ends-right b = record {
-            told = λ slots below. tested slots below ∙ ap₂ (λ (s t : Bool). when (not (not s || not t)) (cond (leZ (w .a) fx && leZ lx (w .b)) slots below)) (sym a) (sym b);
+            told = λ slots below. tested slots below ∙ ap₂ (λ (s t : Bool). when (not (s || t)) (cond (not (ltZ fx (w .a)) && not (ltZ (w .b) lx)) slots below)) a b;
             many = λ e. absurd (no e);
           }
             where
               no : Out ≡ Across → ⊥
               no e = let q : _≡_ {A = ℕ} 0 1 = cc in omega arith
 
-          module _ (b : true ≡ leZ fx (w .b)) where
+          module _ (b : ltZ (w .b) fx ≡ false) where
             meeting : (slots below : List Event)
                 → asPosition n (word ws z) (λ f. asPosition n (word ws (z + size - 1)) (λ l. byEnds w (recordAt ws f .x1) (recordAt ws l .x1) slots below))
-                ≡ cond (leZ (w .a) fx && leZ lx (w .b)) slots below
-            meeting slots below = tested slots below ∙ ap₂ (λ (s t : Bool). when (not (not s || not t)) (cond (leZ (w .a) fx && leZ lx (w .b)) slots below)) (sym a) (sym b)
+                ≡ cond (not (ltZ fx (w .a)) && not (ltZ (w .b) lx)) slots below
+            meeting slots below = tested slots below ∙ ap₂ (λ (s t : Bool). when (not (s || t)) (cond (not (ltZ fx (w .a)) && not (ltZ (w .b) lx)) slots below)) a b
 
             many-of : 0 < size → (first ≡ last → ⊥) → 1 < size
             many-of g h = go (ltb 1 size) refl
@@ -97,22 +97,22 @@ module _ (ws : List ℤ) (n : ℕ) (w : Window) (size z : ℕ) where
                 go true e = ltb-true 1 size e
                 go false e = absurd (h (single (ltb-false 1 size e) g))
 
-            pub ends-cut : 0 < size → false ≡ leZ (w .a) fx → Ended Across
-            ends-cut g c = record {
-              told = λ slots below. meeting slots below ∙ ap (λ (s : Bool). cond (s && leZ lx (w .b)) slots below) (sym c);
-              many = λ e. many-of g (λ q. true≢false (a ∙ ap (λ (p : ℕ). leZ (w .a) (recordAt ws p .x1)) (sym q) ∙ sym c));
+            pub ends-cut-left : 0 < size → ltZ fx (w .a) ≡ true → Ended Across
+            ends-cut-left g c = record {
+              told = λ slots below. meeting slots below ∙ ap (λ (s : Bool). cond (not s && not (ltZ (w .b) lx)) slots below) c;
+              many = λ e. many-of g (λ q. true≢false (sym c ∙ ap (λ (p : ℕ). ltZ (recordAt ws p .x1) (w .a)) q ∙ a));
             }
 
-            module _ (c : true ≡ leZ (w .a) fx) where
-              pub ends-cut-right : 0 < size → false ≡ leZ lx (w .b) → Ended Across
+            module _ (c : ltZ fx (w .a) ≡ false) where
+              pub ends-cut-right : 0 < size → ltZ (w .b) lx ≡ true → Ended Across
               ends-cut-right g d = record {
-                told = λ slots below. meeting slots below ∙ ap₂ (λ (s t : Bool). cond (s && t) slots below) (sym c) (sym d);
-                many = λ e. many-of g (λ q. true≢false (b ∙ ap (λ (p : ℕ). leZ (recordAt ws p .x1) (w .b)) q ∙ sym d));
+                told = λ slots below. meeting slots below ∙ ap₂ (λ (s t : Bool). cond (not s && not t) slots below) c d;
+                many = λ e. many-of g (λ q. true≢false (sym d ∙ ap (λ (p : ℕ). ltZ (w .b) (recordAt ws p .x1)) (sym q) ∙ b));
               }
 
-              pub ends-in : true ≡ leZ lx (w .b) → Ended In
+              pub ends-in : ltZ (w .b) lx ≡ false → Ended In
               ends-in d = record {
-                told = λ slots below. meeting slots below ∙ ap₂ (λ (s t : Bool). cond (s && t) slots below) (sym c) (sym d);
+                told = λ slots below. meeting slots below ∙ ap₂ (λ (s t : Bool). cond (not s && not t) slots below) c d;
                 many = λ e. absurd (no e);
               }
                 where

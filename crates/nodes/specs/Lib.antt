@@ -1,6 +1,4 @@
--- Laws of the search, of slots and of nodes over any words.
-pub mod Search
-pub mod Slots
+-- Laws of nodes over any words.
 pub mod Ends
 pub mod Nodes
 pub mod Stacks

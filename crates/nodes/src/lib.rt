@@ -1,145 +1,23 @@
-// The low ends of an index, walked over any words: the search of level 0, the nodes below it, the slots of a node.
-// Nodes are a loop, with the right nodes that are still to be walked on a small lent stack.
+// The nodes of an index, walked over any words: a loop, with the right nodes that are still to be walked on a small lent stack.
 ghost use mathlib.Core.Path.{_≡_};
 ghost use Prim.Native.Nat.{_+_, _*_, _^_, _<_, _≤_};
 ghost use lib.ListN.{length};
-ghost use Rattle.paper.specs.Walk.{slotsWalk, nodeWalk};
+ghost use Rattle.paper.specs.Walk.{nodeWalk};
 ghost use Rattle.paper.specs.Words.{levelsAt};
 ghost use Rattle.tally.specs.State.{Along};
 ghost use Rattle.tally.specs.Reads.{Ready};
-ghost use Rattle.nodes.specs.Search.{Searched};
-ghost use Rattle.nodes.specs.Slots.{Slotted};
 ghost use Rattle.nodes.specs.Ends.{Ended, Counted};
 ghost use Rattle.nodes.specs.Nodes.{Turned, Deep};
 ghost use Rattle.nodes.specs.Stacks.{pushed};
 use paper::Window;
+use slots::slots;
 use tally::Index;
 use tally::Tally;
 use tally::coordinate_at;
-use tally::keeps;
-use tally::list;
-use tally::reaches;
 use tally::see;
 use tally::stop;
 use tally::whole_at;
-
-// What the search leaves: the slot to begin at.
-pub struct Found {
-    pub tally: Tally,
-    pub p: usize,
-}
-
-// The first slot of level 0 whose y is at least c.
-pub fn search(words: &[i32], n: usize, window: Window, tally0: Tally) -> Found
-    requires { ⌜ (n ≤ 65536) × (levelsAt n + n ≤ length (now words)) ⌝ }
-    requires { ⌜ tally0 .visits + n < 2 ^ 20 ⌝ }
-    ensures { λ r. ⌜ Searched (now (words .entry)) n window tally0 r ⌝ }
-{
-    let mut tally = tally0;
-    let mut lo: usize = 0;
-    let mut hi = n;
-    while lo < hi {
-        if 0 < tally.stopped {
-            return Found {
-                tally: tally,
-                p: lo,
-            };
-        }
-        let mid = (lo + hi) / 2;
-        let next = see(tally);
-        tally = next;
-        let q = whole_at(words, 4 + 4 * n + mid, n);
-        if n <= q {
-            return Found {
-                tally: stop(tally),
-                p: lo,
-            };
-        }
-        if reaches(words, coordinate_at(q, 1), window.c) {
-            hi = mid;
-        } else {
-            lo = mid + 1;
-        }
-    }
-    Found {
-        tally: tally,
-        p: lo,
-    }
-}
-
-// What one slot leaves: whether the next one is read.
-pub struct Slot {
-    pub tally: Tally,
-    pub more: bool,
-}
-
-fn one_slot(
-    words: &[i32],
-    numbers: &mut [i32],
-    index: Index,
-    window: Window,
-    tally: Tally,
-    at: usize,
-) -> Slot
-    requires { ⌜ Ready index (now words) ⌝ }
-    requires { ⌜ at < length (now words) ⌝ }
-    requires { ⌜ (tally .stopped ≡ 0) × (tally .visits + 1 < 2 ^ 64) ⌝ }
-    ensures { λ r. ⌜ Slotted (now (words .entry)) index window at (tally, now (numbers .entry)) r (now (numbers .exit)) ⌝ }
-{
-    let n = index.n;
-    let seen = see(tally);
-    let q = whole_at(words, at, n);
-    if n <= q {
-        return Slot {
-            tally: stop(seen),
-            more: false,
-        };
-    }
-    if !keeps(words, coordinate_at(q, 1), window.d) {
-        return Slot {
-            tally: seen,
-            more: false,
-        };
-    }
-    Slot {
-        tally: list(numbers, index, seen, q),
-        more: true,
-    }
-}
-
-// The slots from a word on, until one is above the window.
-fn slots(
-    words: &[i32],
-    numbers: &mut [i32],
-    index: Index,
-    window: Window,
-    tally0: Tally,
-    count0: usize,
-    at0: usize,
-) -> Tally
-    requires { ⌜ Ready index (now words) ⌝ }
-    requires { ⌜ at0 + count0 ≤ length (now words) ⌝ }
-    requires { ⌜ tally0 .visits + count0 < 2 ^ 20 ⌝ }
-    ensures { λ r. ⌜ Along (index .n) (index .lower) (slotsWalk (now (words .entry)) (index .n) window count0 at0) count0 (tally0, now (numbers .entry)) (r, now (numbers .exit)) ⌝ }
-{
-    let mut tally = tally0;
-    let mut count = count0;
-    let mut at = at0;
-    while 0 < count {
-        if 0 < tally.stopped {
-            return tally;
-        }
-        let slot = one_slot(words, numbers, index, window, tally, at);
-        let next = slot.tally;
-        tally = next;
-        if !slot.more {
-            return tally;
-        }
-        count = count - 1;
-        at = at + 1;
-    }
-    tally
-}
+use whole::cell;
 
 // How the first and last x of a node lie: a spoiled word, beside the window, inside it, or neither.
 pub enum Ends {
@@ -162,22 +40,21 @@ fn ends_of(words: &[i32], n: usize, window: Window, size: usize, z: usize) -> En
     if n <= last {
         return Ends::Bad;
     }
-    let first_x = coordinate_at(first, 0);
-    let last_x = coordinate_at(last, 0);
-    if !reaches(words, last_x, window.a) {
+    let first_x = cell(words, coordinate_at(first, 0));
+    let last_x = cell(words, coordinate_at(last, 0));
+    if last_x < window.a {
         return Ends::Out;
     }
-    if !keeps(words, first_x, window.b) {
+    if window.b < first_x {
         return Ends::Out;
     }
-    if !reaches(words, first_x, window.a) {
+    if first_x < window.a {
         return Ends::Across;
     }
-    if keeps(words, last_x, window.b) {
-        Ends::In
-    } else {
-        Ends::Across
+    if window.b < last_x {
+        return Ends::Across;
     }
+    Ends::In
 }
 
 // Left p of a node: the count at slot p, or the left size where p is the node's size; more than p where the word is spoiled.

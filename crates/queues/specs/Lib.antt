@@ -1,4 +1,3 @@
--- Laws of queues and blocks over any words.
+-- Laws of queues over any words.
 pub mod Queues
 pub mod Stacks
-pub mod Blocks

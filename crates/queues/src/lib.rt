@@ -1,5 +1,5 @@
-// The blocks and queues of an index, walked over any words: one code for horizontals and verticals, low and high queues.
-// A chain of blocks is a loop; a queue is one too, with the right queues that are still to be walked on a small lent stack.
+// The queues of an index, walked over any words: one code for horizontals and verticals, low and high queues.
+// A queue is a loop, with the right queues that are still to be walked on a small lent stack.
 ghost use mathlib.Core.Path.{_≡_};
 ghost use mathlib.Core.Bool.{cond};
 ghost use Prim.Native.Nat.{_+_, _*_, _^_, _<_, _≤_};
@@ -10,7 +10,6 @@ ghost use Rattle.tally.specs.State.{Along};
 ghost use Rattle.tally.specs.Reads.{Ready};
 ghost use Rattle.queues.specs.Queues.{axisOf, endOf, queueOf, Headed};
 ghost use Rattle.queues.specs.Stacks.{pushed};
-ghost use Rattle.queues.specs.Blocks.{blocksOf, Blocked};
 use tally::Index;
 use tally::Tally;
 use tally::coordinate_at;
@@ -20,6 +19,7 @@ use tally::reaches;
 use tally::see;
 use tally::stop;
 use tally::whole_at;
+use whole::cell;
 
 // What is looked for: axis 0 the horizontals, 1 the verticals; the edge that near or far is held against; the band of levels.
 pub struct Band {
@@ -91,8 +91,9 @@ fn enter(
             right: false,
         };
     }
-    let left = reaches(words, at + 1, band.low);
-    let right = keeps(words, at + 1, band.high);
+    let split = cell(words, at + 1);
+    let left = band.low <= split;
+    let right = split <= band.high;
     if in_band(words, band, p) {
         return Head {
             tally: list(numbers, index, seen, p),
@@ -124,7 +125,7 @@ fn push(stack: &mut [usize], depth: usize, at: usize, size: usize) -> usize
 }
 
 // A queue over some at a word. The walk of the current one comes first, then that of each on the stack.
-fn queue(
+pub fn queue(
     words: &[i32],
     numbers: &mut [i32],
     stack: &mut [usize],
@@ -166,108 +167,6 @@ fn queue(
             at = at + 2;
             size = left;
         }
-    }
-    tally
-}
-
-// Where a block's low or high queue stands.
-fn queue_at(at: usize, s: usize, high: bool) -> usize
-    requires { ⌜ (0 < s) × (at + 8 * s < 2 ^ 64) ⌝ }
-    ensures { λ r. ⌜ r ≡ cond high (at + 4 + 2 * s) (at + 4) ⌝ }
-    ensures within { λ r. ⌜ r + 2 * s ≤ at + 8 * s ⌝ }
-{
-    if high { at + 4 + 2 * s } else { at + 4 }
-}
-
-// What one block leaves: the block that the walk goes on to, none where m is 0.
-pub struct Block {
-    pub tally: Tally,
-    pub at: usize,
-    pub m: usize,
-}
-
-fn one_block(
-    words: &[i32],
-    numbers: &mut [i32],
-    stack: &mut [usize],
-    index: Index,
-    band: Band,
-    tally: Tally,
-    at: usize,
-    m: usize,
-) -> Block
-    requires { ⌜ Ready index (now words) ⌝ }
-    requires { ⌜ band .axis < 2 ⌝ }
-    requires { ⌜ (0 < m) × (at + 8 * m ≤ length (now words)) ⌝ }
-    requires { ⌜ (tally .stopped ≡ 0) × (tally .visits + 2 * m < 2 ^ 20) × (40 ≤ length (now stack)) ⌝ }
-    ensures { λ r. ⌜ Blocked (now (words .entry)) index band at m (tally, now (numbers .entry)) r (now (numbers .exit)) ⌝ }
-{
-    let seen = see(tally);
-    let s = whole_at(words, at + 1, 0);
-    let left = whole_at(words, at + 2, m + 1);
-    let right = whole_at(words, at + 3, m + 1);
-    if (s == 0) | (s + left + right != m) {
-        return Block {
-            tally: stop(seen),
-            at: at,
-            m: 0,
-        };
-    }
-    let high = !reaches(words, at, band.edge);
-    let walked = queue(
-        words,
-        numbers,
-        stack,
-        index,
-        band,
-        high,
-        seen,
-        queue_at(at, s, high),
-        s,
-    );
-    if high {
-        return Block {
-            tally: walked,
-            at: at + 8 * s + 8 * left,
-            m: right,
-        };
-    }
-    Block {
-        tally: walked,
-        at: at + 8 * s,
-        m: left,
-    }
-}
-
-// The chain of blocks that begins with one over m at a word.
-pub fn blocks(
-    words: &[i32],
-    numbers: &mut [i32],
-    stack: &mut [usize],
-    index: Index,
-    band: Band,
-    tally0: Tally,
-    at0: usize,
-    m0: usize,
-) -> Tally
-    requires { ⌜ Ready index (now words) ⌝ }
-    requires { ⌜ band .axis < 2 ⌝ }
-    requires { ⌜ at0 + 8 * m0 ≤ length (now words) ⌝ }
-    requires { ⌜ (tally0 .visits + 2 * m0 < 2 ^ 20) × (40 ≤ length (now stack)) ⌝ }
-    ensures { λ r. ⌜ ((w : Window) → Along (index .n) (index .lower) (blocksOf (now (words .entry)) index band w m0 at0) (2 * m0) (tally0, now (numbers .entry)) (r, now (numbers .exit))) ⌝ }
-{
-    let mut tally = tally0;
-    let mut at = at0;
-    let mut m = m0;
-    while 0 < m {
-        if 0 < tally.stopped {
-            return tally;
-        }
-        let block = one_block(words, numbers, stack, index, band, tally, at, m);
-        let next = block.tally;
-        tally = next;
-        at = block.at;
-        m = block.m;
     }
     tally
 }

@@ -19,9 +19,9 @@ use Rattle.tally.specs.Reads.{Ready}
 use Rattle.tally.specs.declared.Tally.{Tally}
 use Rattle.tally.specs.declared.Index.{Index}
 use Rattle.queues.specs.declared.Band.{Band}
-use Rattle.queues.specs.Blocks.{blocksOf}
-use Rattle.nodes.specs.declared.Found.{Found}
-use Rattle.nodes.specs.Search.{Searched}
+use Rattle.blocks.specs.Blocks.{blocksOf}
+use Rattle.slots.specs.declared.Found.{Found}
+use Rattle.slots.specs.Search.{Searched}
 use Rattle.nodes.specs.Nodes.{Deep}
 use Rattle.walk.specs.Header.{indexOf, Sound, ready, levels-enough, levels-few}
 

@@ -6,6 +6,8 @@ use lib.IntN.{ℤ}
 use lib.Signed.{leZ}
 use denote.Ref.{now}
 use mir.Syntax.{w64}
+use mir.Val.{toZ, ofZ}
+use mir.ValLaws.{toZ-ofZ}
 use borrow.Author.Tests.{not-true, not-false}
 use Rattle.whole.specs.Whole.{kept}
 use Rattle.paper.specs.Walk.{word}
@@ -42,17 +44,11 @@ returns-2 c =
     (head-false (now (b .args .words)) (b .args .index) (b .args .band) (b .args .high) (b .args .at) _ (c .before .before .before .whole-at .ensures .0) st (b .pre .1 .1 .1 .0) (c .before .before .if1 .left)
     (sym (not-true (c .before .holds .result) (c .if2 .taken)) ∙ c .before .holds .ensures))
 
-add-reaches : tie.Need-add-reaches
-add-reaches c = search needs
+add-cell : tie.Need-add-cell
+add-cell c = search needs
 
-reaches-requires : tie.Need-reaches-requires
-reaches-requires c κs = search needs
-
-add-keeps : tie.Need-add-keeps
-add-keeps c = search needs
-
-keeps-requires : tie.Need-keeps-requires
-keeps-requires c κs = search needs
+cell-requires : tie.Need-cell-requires
+cell-requires c κs = search needs
 
 in-band-requires : tie.Need-in-band-requires
 in-band-requires c κs = search needs
@@ -65,29 +61,31 @@ same-length c = search needs
 
 returns-3 : tie.Need-returns-3
 returns-3 c =
-    let b = c .before .before .before .before .before .before .before .before .before .before .before .before .before .before in
+    let b = c .before .before .before .before .before .before .before .before .before .before .before .before .before .before .before in
     let ws = now (b .args .words) in
     let st : State = (b .args .tally, now (b .args .numbers)) in
-    head-due ws (b .args .index) (b .args .band) (b .args .high) (b .args .at) _ (c .before .before .before .before .before .before .before .before .before .before .before .before .whole-at .ensures .0) st (b .pre .1 .1 .1 .0) (c .before .before .before .before .before .before .before .before .before .before .before .if1 .left)
-    (sym (not-false (c .before .before .before .before .before .before .before .before .before .before .holds .result) (c .before .before .before .before .before .before .before .before .before .if2 .left)) ∙ c .before .before .before .before .before .before .before .before .before .before .holds .ensures)
-    (c .before .before .before .before .before .before .before .reaches .result) (c .before .before .before .before .before .keeps .result)
-    (c .before .before .before .before .before .before .before .reaches .ensures ∙ ap (λ (z : ℤ). leZ z (word ws (b .args .at + 1))) (kept w64 (b .args .band .low) (c .before .before .before .before .before .before .before .before .struct-told .given .1 .1 .0 .1)))
-    (c .before .before .before .before .before .keeps .ensures ∙ ap (λ (z : ℤ). leZ (word ws (b .args .at + 1)) z) (kept w64 (b .args .band .high) (c .before .before .before .before .before .before .struct-told2 .given .1 .1 .1 .0 .1)))
+    let split = toZ-ofZ w64 (c .before .before .before .before .before .before .before .before .before .cell .result) (c .before .before .before .before .before .before .before .before .before .cell .ensures .1) ∙ c .before .before .before .before .before .before .before .before .before .cell .ensures .0 in
+    head-due ws (b .args .index) (b .args .band) (b .args .high) (b .args .at) _ (c .before .before .before .before .before .before .before .before .before .before .before .before .before .whole-at .ensures .0) st (b .pre .1 .1 .1 .0) (c .before .before .before .before .before .before .before .before .before .before .before .before .if1 .left)
+    (sym (not-false (c .before .before .before .before .before .before .before .before .before .before .before .holds .result) (c .before .before .before .before .before .before .before .before .before .before .if2 .left)) ∙ c .before .before .before .before .before .before .before .before .before .before .before .holds .ensures)
+    _ _
+    (λ i. leZ (kept w64 (b .args .band .low) (c .before .before .before .before .before .before .before .struct-told .given .1 .1 .0 .1) i) (split i))
+    (λ i. leZ (split i) (kept w64 (b .args .band .high) (c .before .before .before .before .before .struct-told2 .given .1 .1 .1 .0 .1) i))
     (sym (c .before .before .before .if3 .taken) ∙ c .before .before .before .before .in-band .ensures)
     (c .before .list .result, c .before .list .last .0)
-    (c .before .list .ensures ∙ ap (λ t. listing (b .args .index .n) (b .args .index .lower) (c .before .before .before .before .before .before .before .before .before .before .before .before .whole-at .result) (t, now (b .args .numbers))) (c .before .before .before .before .before .before .before .before .before .before .before .before .before .see .ensures))
+    (c .before .list .ensures ∙ ap (λ t. listing (b .args .index .n) (b .args .index .lower) (c .before .before .before .before .before .before .before .before .before .before .before .before .before .whole-at .result) (t, now (b .args .numbers))) (c .before .before .before .before .before .before .before .before .before .before .before .before .before .before .see .ensures))
 
 returns-4 : tie.Need-returns-4
 returns-4 c =
-    let b = c .before .before .before .before .before .before .before .before .before .before .before in
+    let b = c .before .before .before .before .before .before .before .before .before .before .before .before in
     let ws = now (b .args .words) in
     let st : State = (b .args .tally, now (b .args .numbers)) in
-    rw (c .before .before .before .before .before .before .before .before .before .before .see .ensures)
-    (head-beside ws (b .args .index) (b .args .band) (b .args .high) (b .args .at) _ (c .before .before .before .before .before .before .before .before .before .whole-at .ensures .0) st (b .pre .1 .1 .1 .0) (c .before .before .before .before .before .before .before .before .if1 .left)
-    (sym (not-false (c .before .before .before .before .before .before .before .holds .result) (c .before .before .before .before .before .before .if2 .left)) ∙ c .before .before .before .before .before .before .before .holds .ensures)
-    (c .before .before .before .before .reaches .result) (c .before .before .keeps .result)
-    (c .before .before .before .before .reaches .ensures ∙ ap (λ (z : ℤ). leZ z (word ws (b .args .at + 1))) (kept w64 (b .args .band .low) (c .before .before .before .before .before .struct-told .given .1 .1 .0 .1)))
-    (c .before .before .keeps .ensures ∙ ap (λ (z : ℤ). leZ (word ws (b .args .at + 1)) z) (kept w64 (b .args .band .high) (c .before .before .before .struct-told2 .given .1 .1 .1 .0 .1)))
+    let split = toZ-ofZ w64 (c .before .before .before .before .before .before .cell .result) (c .before .before .before .before .before .before .cell .ensures .1) ∙ c .before .before .before .before .before .before .cell .ensures .0 in
+    rw (c .before .before .before .before .before .before .before .before .before .before .before .see .ensures)
+    (head-beside ws (b .args .index) (b .args .band) (b .args .high) (b .args .at) _ (c .before .before .before .before .before .before .before .before .before .before .whole-at .ensures .0) st (b .pre .1 .1 .1 .0) (c .before .before .before .before .before .before .before .before .before .if1 .left)
+    (sym (not-false (c .before .before .before .before .before .before .before .before .holds .result) (c .before .before .before .before .before .before .before .if2 .left)) ∙ c .before .before .before .before .before .before .before .before .holds .ensures)
+    _ _
+    (λ i. leZ (kept w64 (b .args .band .low) (c .before .before .before .before .struct-told .given .1 .1 .0 .1) i) (split i))
+    (λ i. leZ (split i) (kept w64 (b .args .band .high) (c .before .before .struct-told2 .given .1 .1 .1 .0 .1) i))
     (sym (c .if3 .left) ∙ c .before .in-band .ensures))
 
 pub enter-spec : {M : Type 1} → statement M
@@ -100,10 +98,8 @@ enter-spec =
     returns
     holds-requires
     returns-2
-    add-reaches
-    reaches-requires
-    add-keeps
-    keeps-requires
+    add-cell
+    cell-requires
     in-band-requires
     list-requires
     same-length

@@ -16,9 +16,9 @@ use Rattle.tally.specs.State.{State, seen, spoilt, after, after-end, after-appe
 use Rattle.tally.specs.Reads.{orElse, sizes-fit, sizes-are, sizes-none, sizes-differ, sizes-told}
 use Rattle.tally.specs.declared.Index.{Index}
 use Rattle.tally.specs.declared.Tally.{Tally}
 use Rattle.queues.specs.declared.Band.{Band}
-use Rattle.queues.specs.declared.Block.{Block}
+use Rattle.blocks.specs.declared.Block.{Block}
 use Rattle.queues.specs.Queues.{axisOf, queueOf}
 
 -- a window, for the visits of a walk that does not look at one
 abbrev none : Window

@@ -1,4 +1,4 @@
--- `nodes::search` meets its contract. Assumes nothing.
+-- `slots::search` meets its contract. Assumes nothing.
 use mathlib.Core.Path.{_≡_, _∙_, sym, ap}
 use Prim.Native.Nat.{_-_}
 use native.Mathlib.Omega.{arith}
@@ -8,10 +8,10 @@ use mir.Syntax.{w64}
 use Rattle.whole.specs.Whole.{kept}
 use Rattle.paper.specs.Walk.{recordAt}
 use Rattle.tally.specs.Reads.{reaches-is}
-use Rattle.nodes.specs.Search.{Seeking, seek-start, seek-end, seek-stopped, seek-spoiled, seek-down, seek-up}
+use Rattle.slots.specs.Search.{Seeking, seek-start, seek-end, seek-stopped, seek-spoiled, seek-down, seek-up}
 use borrow.Author.Needs.{needs}
-use Rattle.nodes.proofs.search.Statement.{statement}
-use Rattle.nodes.proofs.search.Tie as tie
+use Rattle.slots.proofs.search.Statement.{statement}
+use Rattle.slots.proofs.search.Tie as tie
 
 abbrev Inv-loop : tie.InvT-loop
 Inv-loop words n window tally₀ lo₀ hi₀ tally lo hi =

@@ -1,10 +1,10 @@
--- `nodes::slots` meets its contract. Assumes nothing.
+-- `slots::slots` meets its contract. Assumes nothing.
 use mathlib.Core.Path.{_∙_}
 use native.Mathlib.Omega.{arith}
 use borrow.Author.Tests.{not-true, not-false}
-use Rattle.nodes.specs.Slots.{Row, row-start, row-stopped, row-left, row-step, row-end}
-use Rattle.nodes.proofs.slots.Statement.{statement}
-use Rattle.nodes.proofs.slots.Tie as tie
+use Rattle.slots.specs.Slots.{Row, row-start, row-stopped, row-left, row-step, row-end}
+use Rattle.slots.proofs.slots.Statement.{statement}
+use Rattle.slots.proofs.slots.Tie as tie
 
 abbrev Inv-loop : tie.InvT-loop
 Inv-loop words numbers₀ index window count0 at0 tally₀ count₀ at₀ numbers tally count at =

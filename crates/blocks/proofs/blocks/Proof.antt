@@ -1,11 +1,11 @@
--- `queues::blocks` meets its contract. Assumes nothing.
+-- `blocks::blocks` meets its contract. Assumes nothing.
 use mathlib.Core.Path.{_≡_, _∙_, refl}
 use native.Mathlib.Omega.{arith}
 use lib.ListN.{length}
 use denote.Ref.{now}
-use Rattle.queues.specs.Blocks.{Chain, chain-start, chain-step, chain-end, chain-stopped}
-use Rattle.queues.proofs.blocks.Statement.{statement}
-use Rattle.queues.proofs.blocks.Tie as tie
+use Rattle.blocks.specs.Blocks.{Chain, chain-start, chain-step, chain-end, chain-stopped}
+use Rattle.blocks.proofs.blocks.Statement.{statement}
+use Rattle.blocks.proofs.blocks.Tie as tie
 
 abbrev Inv-loop : tie.InvT-loop
 Inv-loop words numbers₀ stack₀ index band at0 m0 tally₀ at₀ m₀ numbers stack tally at m =

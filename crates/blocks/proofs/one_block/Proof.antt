@@ -1,4 +1,4 @@
--- `queues::one_block` meets its contract. Assumes nothing.
+-- `blocks::one_block` meets its contract. Assumes nothing.
 use mathlib.Core.Path.{_≡_, _∙_, sym, ap}
 use mathlib.Core.Bool.{Bool, not}
 use Prim.Native.Nat.{_+_, _*_, _<_, _≤_}
@@ -11,10 +11,10 @@ use mir.Syntax.{w64}
 use Rattle.whole.specs.Whole.{kept}
 use Rattle.paper.specs.Walk.{word}
 use Rattle.tally.specs.State.{State}
-use Rattle.queues.specs.Blocks.{block-unfit, block-low, block-high, sizes-sum}
+use Rattle.blocks.specs.Blocks.{block-unfit, block-low, block-high, sizes-sum}
 use borrow.Author.Needs.{needs}
-use Rattle.queues.proofs.one_block.Statement.{statement}
-use Rattle.queues.proofs.one_block.Tie as tie
+use Rattle.blocks.proofs.one_block.Statement.{statement}
+use Rattle.blocks.proofs.one_block.Tie as tie
 
 see-requires : tie.Need-see-requires
 see-requires c κs = search needs

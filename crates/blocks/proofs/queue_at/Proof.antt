@@ -1,9 +1,9 @@
--- `queues::queue_at` meets its contract. Assumes nothing.
+-- `blocks::queue_at` meets its contract. Assumes nothing.
 use mathlib.Core.Path.{sym}
 use native.Mathlib.Omega.{arith}
 use borrow.Author.Needs.{needs}
-use Rattle.queues.proofs.queue_at.Statement.{statement}
-use Rattle.queues.proofs.queue_at.Tie as tie
+use Rattle.blocks.proofs.queue_at.Statement.{statement}
+use Rattle.blocks.proofs.queue_at.Tie as tie
 
 add-result : tie.Need-add-result
 add-result c = search needs

@@ -12,7 +12,7 @@ use Rattle.paper.specs.declared.Window.{Window}
 use Rattle.tally.specs.State.{State, seen, spoilt, listing, after, after-end, after-stopped, after-visit, after-due, after-spoiled, listing-visits, Along}
 use Rattle.tally.specs.Reads.{orElse, is-position, no-position}
 use Rattle.tally.specs.declared.Index.{Index}
-use Rattle.nodes.specs.declared.Slot.{Slot}
+use Rattle.slots.specs.declared.Slot.{Slot}
 
 module _ (ws : List ℤ) (index : Index) (w : Window) where
   -- one slot, before what follows

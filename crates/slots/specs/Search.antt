@@ -14,7 +14,7 @@ use Rattle.paper.specs.declared.Window.{Window}
 use Rattle.tally.specs.State.{State, seen, spoilt, after, after-stopped, after-visit, after-spoiled}
 use Rattle.tally.specs.Reads.{orElse, is-position, no-position}
 use Rattle.tally.specs.declared.Tally.{Tally}
-use Rattle.nodes.specs.declared.Found.{Found}
+use Rattle.slots.specs.declared.Found.{Found}
 
 module _ (ws : List ℤ) (n : ℕ) (w : Window) where
   -- one mid

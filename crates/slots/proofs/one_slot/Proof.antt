@@ -1,4 +1,4 @@
--- `nodes::one_slot` meets its contract. Assumes nothing.
+-- `slots::one_slot` meets its contract. Assumes nothing.
 use mathlib.Core.Path.{_≡_, _∙_, sym, ap}
 use native.Mathlib.Omega.{arith}
 use lib.Signed.{leZ}
@@ -9,10 +9,10 @@ use Rattle.whole.specs.Whole.{kept}
 use Rattle.paper.specs.Walk.{recordAt}
 use Rattle.tally.specs.State.{State, listing}
 use Rattle.tally.specs.Reads.{keeps-is}
-use Rattle.nodes.specs.Slots.{slot-spoiled, slot-above, slot-due}
+use Rattle.slots.specs.Slots.{slot-spoiled, slot-above, slot-due}
 use borrow.Author.Needs.{needs}
-use Rattle.nodes.proofs.one_slot.Statement.{statement}
-use Rattle.nodes.proofs.one_slot.Tie as tie
+use Rattle.slots.proofs.one_slot.Statement.{statement}
+use Rattle.slots.proofs.one_slot.Tie as tie
 
 see-requires : tie.Need-see-requires
 see-requires c κs = search needs

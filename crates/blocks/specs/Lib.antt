@@ -1,0 +1,2 @@
+-- Laws of blocks over any words.
+pub mod Blocks
