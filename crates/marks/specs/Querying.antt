@@ -1,5 +1,5 @@
--- What the public query gives along its order 9, 8, 7, 10, from what the walk gives.
-use mathlib.Core.Path.{_≡_, refl, sym, ap, ap₂, _∙_}
+-- What the public query gives along its order 9, 8, 7, 10, from what the walk gives; and that what `queried` gives keeps the promises (`with-promise`).
+use mathlib.Core.Path.{_≡_, refl, sym, ap, ap₂, subst, _∙_}
 use mathlib.Core.Bool.{Bool, true, false, cond}
 use mathlib.Core.List.{List, [], _∷_, _++_}
 use Prim.Native.Nat.{ℕ, _+_, _≤_, _<_}
@@ -13,13 +13,18 @@ use Rattle.paper.specs.Descriptor.{numberOf}
 use Rattle.paper.specs.Answers.{badWindow, refused, done}
 use Rattle.paper.specs.Orders.{badIndex, isStopped}
 use Rattle.paper.specs.Walk.{word, sizeIn, Walked, walked, stopped, walkOf}
-use Rattle.paper.specs.Results.{over, numbersOf, listing, queried}
+use Rattle.paper.specs.Results.{Result, over, numbersOf, listing, queried}
+use Rattle.paper.specs.Demands.{QueryPromise, QueryPromises}
+use Rattle.promise.specs.Demands.{query-promise}
 use Rattle.paper.specs.declared.Window.{Window}
 use Rattle.tally.specs.Fold.{Given}
 use Rattle.tally.specs.declared.Tally.{Tally}
 use Rattle.marks.specs.Orders.{refusalAt}
 
 module _ (ws : List ℤ) (w : Window) (numbers : List ℤ) where
+  pub with-promise : {r : Result} → r ≡ queried ws w numbers → (r ≡ queried ws w numbers) × QueryPromises ws w numbers r
+  with-promise e = (e, λ first segments index good room. subst (QueryPromise first segments w) (sym e) (query-promise first segments w ws numbers index good room))
+
   pub index-refused : badIndex ws .given ≡ true → (refused (refusalAt 9 0), numbers) ≡ queried ws w numbers
   unfolding queried
   index-refused e = rw e

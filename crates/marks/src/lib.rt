@@ -2,7 +2,7 @@
 ghost use mathlib.Core.Path.{_≡_};
 ghost use lib.IntN.{pos};
 ghost use Rattle.paper.specs.Results.{Scanned, queried};
-ghost use Rattle.paper.specs.Demands.{ScanPromise};
+ghost use Rattle.paper.specs.Demands.{ScanPromise, QueryPromises};
 use paper::Descriptor;
 use paper::Reply;
 use paper::Window;
@@ -35,8 +35,10 @@ pub fn scan(table: &[i32], descriptor: Descriptor, window: Window, numbers: &mut
 }
 
 // The numbers that the walk of an index lists for a window, into the first cells; order 9, 8, 7, 10. Answer 10 sets the first n cells to 0.
+// Words that are an index of a table's segments, a good window and n cells promise answer 0, each meeting segment's number once and no other, and few visits.
 pub fn query(words: &[i32], window: Window, numbers: &mut [i32]) -> Reply
     ensures { λ r. ⌜ (r, now (numbers .exit)) ≡ queried (now (words .entry)) window (now (numbers .entry)) ⌝ }
+    ensures promise { λ r. ⌜ QueryPromises (now (words .entry)) window (now (numbers .entry)) (r, now (numbers .exit)) ⌝ }
 {
     if walk::bad_index(words) {
         return refusals::refusal(9, 0);

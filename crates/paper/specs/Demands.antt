@@ -120,3 +120,12 @@ pub record QueryPromise (first : ℤ) (segments : List Segment) (w : Window) (r 
   pub isDone : r .0 .number ≡ pos 0
   pub lists : ListsNumbers first segments w (listedBy r)
   pub few : r .0 .visits ≤ℤ pos (mostVisits (length segments) (toNat (r .0 .count)))
+
+-- that, for every table that the words are an index of
+abbrev pub QueryPromises : List ℤ → Window → List ℤ → Result → Type 0
+QueryPromises ws w numbers r =
+    (first : ℤ) (segments : List Segment)
+    → IndexOf first segments ws
+    → badWindow w .given ≡ false
+    → length segments ≤ length numbers
+    → QueryPromise first segments w r

@@ -23,7 +23,7 @@ returns c =
     let a = c .before .before .before .before .before .args in
     let f = c .before .before .before .before .before .fits in
     let window = c .before .before .before .before .window-of .ensures ∙ window-given (f .a) (f .b) (f .c) (f .d) in
-    for-host (λ w r. r ≡ queried (a .index .now) w (a .numbers .now)) (c .to-host .ensures) window (c .before .before .query .ensures)
+    for-host (λ w r. r ≡ queried (a .index .now) w (a .numbers .now)) (c .to-host .ensures) window (c .before .before .query .ensures .0)
 
 pub kalinosz-query-spec : {M : Type 1} → statement M
 kalinosz-query-spec = tie.close (tie.spec window-of-requires query-requires to-host-requires same-length returns)

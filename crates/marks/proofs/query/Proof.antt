@@ -13,7 +13,7 @@ use Rattle.paper.specs.Walk.{word, sizeIn}
 use Rattle.paper.specs.declared.Reply.{Reply}
 use Rattle.tally.specs.Reads.{or-none}
 use Rattle.walk.specs.Header.{sound-index}
-use Rattle.marks.specs.Querying.{index-refused, window-refused, buffer-refused, walk-refused, listed-few, walk-done}
+use Rattle.marks.specs.Querying.{with-promise, index-refused, window-refused, buffer-refused, walk-refused, listed-few, walk-done}
 use borrow.Author.Needs.{needs}
 use Rattle.marks.proofs.query.Statement.{statement}
 use Rattle.marks.proofs.query.Tie as tie
@@ -27,8 +27,8 @@ refusal-requires c κs = search needs
 returns : tie.Need-returns
 returns c =
     let b = c .before .before .before in
-    ap (λ (r : Reply). (r, now (b .args .numbers))) (c .refusal .ensures)
-    ∙ index-refused (now (b .args .words)) (b .args .window) (now (b .args .numbers)) (sym (c .before .before .bad-index .ensures) ∙ c .before .if1 .taken)
+    with-promise (now (b .args .words)) (b .args .window) (now (b .args .numbers)) (ap (λ (r : Reply). (r, now (b .args .numbers))) (c .refusal .ensures)
+    ∙ index-refused (now (b .args .words)) (b .args .window) (now (b .args .numbers)) (sym (c .before .before .bad-index .ensures) ∙ c .before .if1 .taken))
 
 bad-window-requires : tie.Need-bad-window-requires
 bad-window-requires c κs = search needs
@@ -40,8 +40,8 @@ returns-2 : tie.Need-returns-2
 returns-2 c =
     let b = c .before .before .before .before .before in
     let e9 : badIndex (now (b .args .words)) .given ≡ false = sym (c .before .before .before .before .bad-index .ensures) ∙ c .before .before .before .if1 .left in
-    ap (λ (r : Reply). (r, now (b .args .numbers))) (c .refusal2 .ensures)
-    ∙ window-refused (now (b .args .words)) (b .args .window) (now (b .args .numbers)) e9 (sym (c .before .before .bad-window .ensures) ∙ c .before .if2 .taken)
+    with-promise (now (b .args .words)) (b .args .window) (now (b .args .numbers)) (ap (λ (r : Reply). (r, now (b .args .numbers))) (c .refusal2 .ensures)
+    ∙ window-refused (now (b .args .words)) (b .args .window) (now (b .args .numbers)) e9 (sym (c .before .before .bad-window .ensures) ∙ c .before .if2 .taken))
 
 whole-at-requires : tie.Need-whole-at-requires
 whole-at-requires c κs =
@@ -59,8 +59,8 @@ returns-3 c =
     let e9 : badIndex ws .given ≡ false = sym (c .before .before .before .before .before .before .bad-index .ensures) ∙ c .before .before .before .before .before .if1 .left in
     let e8 : badWindow (b .args .window) .given ≡ false = sym (c .before .before .before .before .bad-window .ensures) ∙ c .before .before .before .if2 .left in
     let n = c .before .before .whole-at .ensures .0 ∙ or-none (word ws 0) in
-    ap (λ (r : Reply). (r, now (b .args .numbers))) (c .refusal3 .ensures)
-    ∙ buffer-refused ws (b .args .window) (now (b .args .numbers)) e9 e8 (omega (arith, n, c .before .if3 .taken))
+    with-promise (now (b .args .words)) (b .args .window) (now (b .args .numbers)) (ap (λ (r : Reply). (r, now (b .args .numbers))) (c .refusal3 .ensures)
+    ∙ buffer-refused ws (b .args .window) (now (b .args .numbers)) e9 e8 (omega (arith, n, c .before .if3 .taken)))
 
 walk-requires : tie.Need-walk-requires
 walk-requires c κs =
@@ -87,9 +87,9 @@ returns-4 c =
     let n : c .before .before .before .before .before .before .before .before .before .before .whole-at .result ≡ sizeIn ws = c .before .before .before .before .before .before .before .before .before .before .whole-at .ensures .0 ∙ or-none (word ws 0) in
     let m : c .before .before .before .before .before .before .before .before .before .before .whole-at .result - 0 ≡ sizeIn ws = omega (arith, n) in
     let o = c .before .before .before .before .before .before .before .walk in
-    ap (λ (r : Reply). (r, c .before .before .clear .last .0)) (c .refusal4 .ensures)
+    with-promise (now (b .args .words)) (b .args .window) (now (b .args .numbers)) (ap (λ (r : Reply). (r, c .before .before .clear .last .0)) (c .refusal4 .ensures)
     ∙ walk-refused ws (b .args .window) (now (b .args .numbers)) e9 e8 (omega (arith, n, c .before .before .before .before .before .before .before .before .before .if3 .left)) (o .result) (o .last .1 .1 .0) (o .ensures .0) (c .before .before .before .before .if4 .taken)
-    (c .before .before .clear .last .0) (c .before .before .clear .ensures ∙ ap (λ (k : ℕ). put 0 (replicate k (pos 0)) (o .last .1 .1 .0)) m)
+    (c .before .before .clear .last .0) (c .before .before .clear .ensures ∙ ap (λ (k : ℕ). put 0 (replicate k (pos 0)) (o .last .1 .1 .0)) m))
 
 done-requires : tie.Need-done-requires
 done-requires c κs =
@@ -115,8 +115,8 @@ returns-5 c =
     let e8 : badWindow (b .args .window) .given ≡ false = sym (c .before .before .before .before .before .before .before .before .before .bad-window .ensures) ∙ c .before .before .before .before .before .before .before .before .if2 .left in
     let n : c .before .before .before .before .before .before .before .whole-at .result ≡ sizeIn ws = c .before .before .before .before .before .before .before .whole-at .ensures .0 ∙ or-none (word ws 0) in
     let o = c .before .before .before .before .walk in
-    ap (λ (r : Reply). (r, o .last .1 .1 .0)) (c .done .ensures)
-    ∙ walk-done ws (b .args .window) (now (b .args .numbers)) e9 e8 (omega (arith, n, c .before .before .before .before .before .before .if3 .left)) (o .result) (o .last .1 .1 .0) (o .ensures .0) (c .before .if4 .left)
+    with-promise (now (b .args .words)) (b .args .window) (now (b .args .numbers)) (ap (λ (r : Reply). (r, o .last .1 .1 .0)) (c .done .ensures)
+    ∙ walk-done ws (b .args .window) (now (b .args .numbers)) e9 e8 (omega (arith, n, c .before .before .before .before .before .before .if3 .left)) (o .result) (o .last .1 .1 .0) (o .ensures .0) (c .before .if4 .left))
 
 pub query-spec : {M : Type 1} → statement M
 query-spec =
