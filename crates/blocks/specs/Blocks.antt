@@ -2,7 +2,7 @@
 use mathlib.Core.Path.{_≡_, refl, sym, ap, ap₂, _∙_}
 use mathlib.Core.Bool.{Bool, true, false, not, true≢false, _||_, cond}
 use mathlib.Core.List.{List, [], _∷_, _++_}
-use Prim.Native.Nat.{ℕ, zero, suc, _+_, _-_, _*_, _≤_, _<_, _^_}
+use Prim.Native.Nat.{ℕ, zero, suc, _+_, _*_, _≤_, _<_, _^_}
 use native.Mathlib.Omega.{arith}
 use lib.ListN.{length}
 use lib.Dec.{eqb}
@@ -10,7 +10,7 @@ use borrow.Author.Tests.{eqb-true, eqb-false, not-true, not-false}
 use lib.IntN.{ℤ, pos}
 use lib.Signed.{leZ}
 use Rattle.lists.specs.Plain.{toNat}
-use Rattle.paper.specs.Walk.{atBlock, Event, visit, spoiled, word, sound, sizesFit, blockAt, blockWalkTo, blockWalk}
+use Rattle.paper.specs.Walk.{atBlock, Event, visit, word, sound, sizesFit, blockAt, blockWalkTo, blockWalk}
 use Rattle.paper.specs.declared.Window.{Window}
 use Rattle.tally.specs.State.{State, seen, spoilt, after, after-end, after-append, after-stopped, after-visit, after-spoiled, Along}
 use Rattle.tally.specs.Reads.{orElse, sizes-fit, sizes-are, sizes-none, sizes-differ, sizes-told}

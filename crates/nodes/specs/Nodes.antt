@@ -1,13 +1,13 @@
 -- One node: what it does itself, and whether the walk goes on below it.
-use mathlib.Core.Path.{_≡_, refl, sym, ap, ap₂, _∙_}
-use mathlib.Core.Bool.{Bool, true, false, true≢false}
-use mathlib.Core.List.{List, [], _∷_, _++_}
-use Prim.Native.Nat.{ℕ, zero, suc, _+_, _-_, _*_, _/_, _^_, _≤_, _<_}
+use mathlib.Core.Path.{_≡_, sym, ap, _∙_}
+use mathlib.Core.Bool.{true, false, true≢false}
+use mathlib.Core.List.{List, _++_}
+use Prim.Native.Nat.{ℕ, _+_, _-_, _*_, _^_, _≤_, _<_}
 use native.Mathlib.Omega.{arith}
 use lib.ListN.{length}
 use lib.IntN.{ℤ}
 use Rattle.lists.specs.Plain.{half}
-use Rattle.paper.specs.Walk.{atNode, Event, visit, spoiled, when, asCount, countWord, slotsWalk, nodeAt, nodeWalk}
+use Rattle.paper.specs.Walk.{atNode, Event, when, asCount, countWord, slotsWalk, nodeAt}
 use Rattle.paper.specs.declared.Window.{Window}
 use Rattle.tally.specs.State.{State, seen, spoilt, after, after-end, after-visit, after-spoiled, Along}
 use Rattle.tally.specs.declared.Index.{Index}

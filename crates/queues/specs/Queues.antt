@@ -4,15 +4,13 @@ use mathlib.Core.Bool.{Bool, true, false, not, _&&_, cond}
 use mathlib.Core.List.{List, [], _∷_, _++_}
 use Prim.Native.Nat.{ℕ, zero, suc, _+_, _-_, _*_, _/_, _≤_, _<_}
 use native.Mathlib.Omega.{arith}
-use lib.ListN.{length}
-use lib.IntN.{ℤ, pos}
+use lib.IntN.{ℤ}
 use lib.Signed.{leZ, ltZ}
 use Rattle.lists.specs.Plain.{half}
 use Rattle.paper.specs.Words.{Axis, horizontal, vertical, End, low, high, recordWords, recordsAt}
-use Rattle.paper.specs.Walk.{Event, visit, due, spoiled, atQueue, word, recordAt, when, asPosition, condition, inBand, queueAt, queueWalkTo, queueWalk}
-use Rattle.paper.specs.declared.Segment.{Segment}
+use Rattle.paper.specs.Walk.{Event, due, atQueue, word, recordAt, when, condition, inBand, queueAt, queueWalkTo, queueWalk}
 use Rattle.paper.specs.declared.Window.{Window}
-use Rattle.tally.specs.State.{State, seen, spoilt, listing, after, after-end, after-append, after-visit, after-due, after-spoiled, listing-visits}
+use Rattle.tally.specs.State.{State, seen, spoilt, listing, after, after-end, after-visit, after-due, after-spoiled, listing-visits}
 use Rattle.tally.specs.Reads.{orElse, coordinate, coordinate-word, is-position, no-position, lt-not}
 use Rattle.tally.specs.declared.Index.{Index}
 use Rattle.queues.specs.declared.Band.{Band}

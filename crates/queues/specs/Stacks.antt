@@ -1,16 +1,14 @@
 -- A queue walked with a stack: what is left to do is the current queue's walk, then that of each queue on the stack.
-use mathlib.Core.Path.{_≡_, refl, sym, ap, ap₂, _∙_, subst}
-use mathlib.Core.Bool.{Bool, true, false, true≢false, _||_, cond}
-use mathlib.Core.List.{List, [], _∷_, _++_, append-nil, append-assoc}
+use mathlib.Core.Path.{_≡_, refl, sym, ap, ap₂, _∙_}
+use mathlib.Core.Bool.{Bool, true, false, cond}
+use mathlib.Core.List.{List, _++_, append-nil, append-assoc}
 use Prim.Native.Nat.{ℕ, zero, suc, _+_, _-_, _*_, _/_, _^_, _≤_, _<_}
 use native.Mathlib.Omega.{arith}
 use native.Mathlib.Nat.{pow-suc}
-use lib.Dec.{ltb}
-use borrow.Author.Tests.{ltb-true, ltb-false, le-ltb}
 use lib.ListN.{length, getD, set, length-set}
 use lib.Seq.{getD-set-same, getD-set-other}
 use lib.IntN.{ℤ}
-use Rattle.paper.specs.Walk.{Event, when}
+use Rattle.paper.specs.Walk.{Event}
 use Rattle.paper.specs.declared.Window.{Window}
 use Rattle.tally.specs.State.{State, after, after-end, after-append, after-stopped, Along}
 use Rattle.tally.specs.Stack.{pending, pending-none, pending-more, pending-same, total, total-none, total-more, total-same, below-suc}

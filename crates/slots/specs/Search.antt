@@ -1,17 +1,17 @@
 -- The search of level 0: what is walked after it, whatever that is, is walked from the slot found.
 use mathlib.Core.Path.{_≡_, refl, sym, ap, ap₂, _∙_}
 use mathlib.Core.Bool.{Bool, true, false, cond}
-use mathlib.Core.List.{List, [], _∷_, _++_}
-use Prim.Native.Nat.{ℕ, zero, suc, _+_, _-_, _*_, _/_, _≤_, _<_, _^_}
+use mathlib.Core.List.{List, _∷_}
+use Prim.Native.Nat.{ℕ, zero, suc, _+_, _-_, _/_, _≤_, _<_}
 use native.Mathlib.Omega.{arith}
 use lib.Dec.{eqb}
 use borrow.Author.Tests.{eq-eqb, ne-eqb, eqb-true, eqb-false}
 use lib.IntN.{ℤ}
 use lib.Signed.{leZ}
 use Rattle.paper.specs.Words.{levelsAt}
-use Rattle.paper.specs.Walk.{atSearch, Event, visit, spoiled, word, recordAt, asPosition, searchTo}
+use Rattle.paper.specs.Walk.{atSearch, Event, visit, word, recordAt, asPosition, searchTo}
 use Rattle.paper.specs.declared.Window.{Window}
-use Rattle.tally.specs.State.{State, seen, spoilt, after, after-stopped, after-visit, after-spoiled}
+use Rattle.tally.specs.State.{seen, spoilt, after, after-stopped, after-visit, after-spoiled}
 use Rattle.tally.specs.Reads.{orElse, is-position, no-position}
 use Rattle.tally.specs.declared.Tally.{Tally}
 use Rattle.slots.specs.declared.Found.{Found}

@@ -1,13 +1,13 @@
 -- The slots of a node that lies inside the window's a..b.
 use mathlib.Core.Path.{_≡_, refl, sym, ap, _∙_}
 use mathlib.Core.Bool.{Bool, true, false}
-use mathlib.Core.List.{List, [], _∷_, _++_}
-use Prim.Native.Nat.{ℕ, zero, suc, _+_, _-_, _*_, _≤_, _<_, _^_}
+use mathlib.Core.List.{List, [], _∷_}
+use Prim.Native.Nat.{ℕ, zero, suc, _+_, _-_, _≤_, _<_, _^_}
 use native.Mathlib.Omega.{arith}
 use lib.ListN.{length}
 use lib.IntN.{ℤ}
 use lib.Signed.{leZ}
-use Rattle.paper.specs.Walk.{atSlot, Event, visit, due, spoiled, word, recordAt, when, asPosition, slotsWalk}
+use Rattle.paper.specs.Walk.{atSlot, Event, visit, due, word, recordAt, when, asPosition, slotsWalk}
 use Rattle.paper.specs.declared.Window.{Window}
 use Rattle.tally.specs.State.{State, seen, spoilt, listing, after, after-end, after-stopped, after-visit, after-due, after-spoiled, listing-visits, Along}
 use Rattle.tally.specs.Reads.{orElse, is-position, no-position}

@@ -13,6 +13,7 @@ use tally::Index;
 use tally::Tally;
 use tally::coordinate_at;
 use tally::keeps;
+use tally::levels_at;
 use tally::list;
 use tally::reaches;
 use tally::see;
@@ -44,7 +45,7 @@ pub fn search(words: &[i32], n: usize, window: Window, tally0: Tally) -> Found
         let mid = (lo + hi) / 2;
         let next = see(tally);
         tally = next;
-        let q = whole_at(words, 4 + 4 * n + mid, n);
+        let q = whole_at(words, levels_at(n) + mid, n);
         if n <= q {
             return Found {
                 tally: stop(tally),

@@ -1,14 +1,14 @@
 -- The events' outcome in `paper` (positions in order, and visits) beside what the code keeps: `stands-after`.
-use mathlib.Core.Path.{_≡_, refl, sym, ap, ap₂, _∙_, subst}
+use mathlib.Core.Path.{_≡_, refl, sym, ap, _∙_, subst}
 use mathlib.Core.Bool.{Bool, true, false, cond}
-use mathlib.Core.List.{List, [], _∷_, _++_, map, map-append}
-use Prim.Native.Nat.{ℕ, zero, suc, _+_, _-_, _≤_, _<_}
+use mathlib.Core.List.{List, [], _∷_, _++_, map-append}
+use Prim.Native.Nat.{ℕ, suc, _+_, _≤_, _<_}
 use native.Mathlib.Omega.{arith}
 use lib.Dec.{ltb, eqb}
 use lib.ListN.{length, take, drop, set, getD, length-append, length-map, length-take, length-drop}
 use lib.Seq.{set-at, set-out, drop-cons, append-snoc, take-all, take-nil, take-append-le}
 use borrow.Author.Tests.{ltb-true, ltb-false, ne-eqb}
-use lib.IntN.{ℤ, pos, _+ℤ_}
+use lib.IntN.{ℤ, pos}
 use Rattle.paper.specs.Descriptor.{numberOf}
 use Rattle.paper.specs.Results.{over, numbersOf}
 use Rattle.paper.specs.Walk.{Event, visit, due, spoiled, Walked, walked, stopped, step, run}

@@ -1,15 +1,15 @@
 -- What the code keeps of a walk, a tally and the number cells, and what a list of `paper`'s events makes of it: `after`.
 -- A proof cites the laws `after-..` and opens nothing.
-use mathlib.Core.Path.{_≡_, refl, sym, ap, _∙_}
-use mathlib.Core.Bool.{Bool, true, false, true≢false, cond}
+use mathlib.Core.Path.{_≡_, refl, ap, _∙_}
+use mathlib.Core.Bool.{Bool, true, false, cond}
 use mathlib.Core.List.{List, [], _∷_, _++_}
-use Prim.Native.Nat.{ℕ, zero, suc, _+_, _≤_, _<_}
+use Prim.Native.Nat.{ℕ, _+_, _≤_, _<_}
 use native.Mathlib.Omega.{arith}
-use lib.ListN.{length, drop, set, length-set}
+use lib.ListN.{length, drop, set}
 use lib.Seq.{set-out, drop-set-lt}
 use lib.Dec.{ltb, eqb}
 use borrow.Author.Tests.{lt-ltb, le-ltb, ltb-true, eq-eqb, ne-eqb}
-use lib.IntN.{ℤ, pos, _+ℤ_}
+use lib.IntN.{ℤ}
 use Rattle.paper.specs.Descriptor.{numberOf}
 use Rattle.paper.specs.Walk.{Kind, Event, visit, due, spoiled}
 use Rattle.tally.specs.declared.Tally.{Tally}

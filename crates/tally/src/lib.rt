@@ -7,7 +7,7 @@ ghost use lib.ListN.{length};
 ghost use lib.IntN.{pos, _+ℤ_};
 ghost use lib.Signed.{leZ};
 ghost use Rattle.paper.specs.Limits.{lowerFits};
-ghost use Rattle.paper.specs.Words.{recordWords, recordsAt};
+ghost use Rattle.paper.specs.Words.{recordWords, recordsAt, levelsAt};
 ghost use Rattle.paper.specs.Walk.{word};
 ghost use Rattle.tally.specs.State.{seen, spoilt, listing};
 ghost use Rattle.tally.specs.Reads.{orElse};
@@ -99,6 +99,14 @@ pub fn coordinate_at(p: usize, j: usize) -> usize
     ensures { λ r. ⌜ r ≡ recordsAt + recordWords * p + j ⌝ }
 {
     4 + 4 * p + j
+}
+
+// Where level 0 begins: after the records.
+pub fn levels_at(n: usize) -> usize
+    requires { ⌜ n ≤ 65536 ⌝ }
+    ensures { λ r. ⌜ r ≡ levelsAt n ⌝ }
+{
+    4 + 4 * n
 }
 
 // Whether a word is at least an edge.

@@ -1,19 +1,19 @@
 -- Answer 9 by its parts, and what an index that it is not given for has.
-use mathlib.Core.Path.{_≡_, refl, sym, ap, ap₂, _∙_}
+use mathlib.Core.Path.{_≡_, refl, sym, ap, _∙_}
 use mathlib.Core.Bool.{Bool, true, false, not, true≢false, _&&_, _||_}
 use mathlib.Core.List.{List}
-use Prim.Native.Nat.{ℕ, _+_, _-_, _*_, _^_, _≤_, _<_}
+use Prim.Native.Nat.{ℕ, _+_, _-_, _^_, _≤_, _<_}
 use native.Mathlib.Omega.{arith}
 use lib.Dec.{ltb, leb}
 use lib.ListN.{length}
 use borrow.Author.Tests.{ltb-true, ltb-false, lt-ltb, le-ltb, leb-true}
 use lib.IntN.{ℤ, pos, negsuc, _+ℤ_}
-use lib.Signed.{leZ, ltZ}
+use lib.Signed.{ltZ}
 use Rattle.lists.specs.Plain.{same, toNat}
 use Rattle.lists.specs.Digits.{digits-bound, digits-least}
 use Rattle.paper.specs.Limits.{extentFits, lowerFits}
 use Rattle.paper.specs.Orders.{badIndex}
-use Rattle.paper.specs.Words.{L, D, W, levelsAt}
+use Rattle.paper.specs.Words.{L, W}
 use Rattle.paper.specs.Walk.{word, sizeIn}
 use Rattle.tally.specs.Reads.{Ready}
 use Rattle.tally.specs.declared.Index.{Index}

@@ -1,22 +1,19 @@
 -- The whole walk from its groups.
-use mathlib.Core.Path.{_≡_, refl, sym, ap, ap₂, _∙_, subst}
-use mathlib.Core.Bool.{Bool, true, false, not, cond}
-use mathlib.Core.List.{List, [], _∷_, _++_}
-use Prim.Native.Nat.{ℕ, zero, suc, _+_, _-_, _*_, _^_, _≤_, _<_}
+use mathlib.Core.Path.{_≡_, sym, ap, _∙_, subst}
+use mathlib.Core.Bool.{Bool, not}
+use mathlib.Core.List.{List, _++_}
+use Prim.Native.Nat.{ℕ, suc, _+_, _-_, _*_, _≤_, _<_}
 use native.Mathlib.Omega.{arith}
 use native.Mathlib.Nat.{mul-suc}
-use lib.Dec.{eqb}
-use lib.ListN.{length}
 use borrow.Author.Tests.{eq-eqb, ne-eqb}
-use lib.IntN.{ℤ, pos}
+use lib.IntN.{ℤ}
 use Rattle.lists.specs.Plain.{toNat}
-use Rattle.paper.specs.Words.{L, D, W, levelsAt, blocksAt}
-use Rattle.paper.specs.Walk.{Event, word, when, search, nodeWalk, sizeIn, walk, Walked, walkOf, run}
+use Rattle.paper.specs.Words.{L, D, levelsAt, blocksAt}
+use Rattle.paper.specs.Walk.{Event, word, when, search, nodeWalk, sizeIn, walk, walkOf}
 use Rattle.paper.specs.declared.Window.{Window}
 use Rattle.tally.specs.State.{State, after, after-end, after-append, Along}
 use Rattle.tally.specs.Fold.{tally, Given, given-after}
 use Rattle.tally.specs.Reads.{Ready}
-use Rattle.tally.specs.declared.Tally.{Tally}
 use Rattle.tally.specs.declared.Index.{Index}
 use Rattle.queues.specs.declared.Band.{Band}
 use Rattle.blocks.specs.Blocks.{blocksOf}

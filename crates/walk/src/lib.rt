@@ -18,6 +18,7 @@ use queues::Band;
 use slots::search;
 use tally::Index;
 use tally::Tally;
+use tally::levels_at;
 use tally::whole_at;
 use whole::widen;
 
@@ -98,7 +99,7 @@ fn low_ends(words: &[i32], numbers: &mut [i32], stack: &mut [usize], window: Win
         levels,
         n,
         found.p,
-        4 + 4 * n,
+        levels_at(n),
     )
 }
 
@@ -143,7 +144,7 @@ pub fn walk(words: &[i32], window: Window, numbers: &mut [i32]) -> Tally
     }
     let mut stack = [0usize; 72];
     let first = low_ends(words, numbers, &mut stack, window);
-    let at = 4 + 4 * n + 2 * n * (table::digits(n - 1) + 1);
+    let at = levels_at(n) + 2 * n * (table::digits(n - 1) + 1);
     let m = whole_at(words, 2, 0);
     let second = blocks(
         words,

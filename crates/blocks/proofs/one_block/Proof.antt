@@ -1,10 +1,8 @@
 -- `blocks::one_block` meets its contract. Assumes nothing.
-use mathlib.Core.Path.{_≡_, _∙_, sym, ap}
-use mathlib.Core.Bool.{Bool, not}
-use Prim.Native.Nat.{_+_, _*_, _<_, _≤_}
+use mathlib.Core.Path.{_∙_, ap}
+use mathlib.Core.Bool.{not}
 use native.Mathlib.Omega.{arith}
 use lib.IntN.{ℤ}
-use lib.ListN.{length}
 use lib.Signed.{leZ}
 use denote.Ref.{now}
 use mir.Syntax.{w64}

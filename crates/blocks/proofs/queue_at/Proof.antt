@@ -1,5 +1,4 @@
 -- `blocks::queue_at` meets its contract. Assumes nothing.
-use mathlib.Core.Path.{sym}
 use native.Mathlib.Omega.{arith}
 use borrow.Author.Needs.{needs}
 use Rattle.blocks.proofs.queue_at.Statement.{statement}

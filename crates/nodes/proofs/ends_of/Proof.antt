@@ -1,5 +1,5 @@
 -- `nodes::ends_of` meets its contract. Assumes nothing.
-use mathlib.Core.Path.{_≡_, _∙_, sym, ap}
+use mathlib.Core.Path.{_∙_, sym, ap}
 use native.Mathlib.Omega.{arith}
 use lib.Signed.{ltZ}
 use denote.Ref.{now}

@@ -1,10 +1,10 @@
 -- `nodes::nodes` meets its contract. Assumes nothing.
-use mathlib.Core.Path.{_≡_, _∙_, refl}
+use mathlib.Core.Path.{_≡_, refl}
 use Prim.Native.Nat.{suc, _-_, _<_}
 use native.Mathlib.Omega.{arith}
 use lib.ListN.{length}
 use Rattle.tally.specs.Stack.{some-left, none-left}
-use Rattle.nodes.specs.Stacks.{Stacked, work, stack-start, stack-stopped, stack-end, stack-pop, stack-flat, flat-less, levels-left, stack-room, left-from, down-inside, stack-push, push-less, pop-less}
+use Rattle.nodes.specs.Stacks.{Stacked, work, stack-start, stack-stopped, stack-end, stack-pop, stack-flat, levels-left, stack-room, left-from, down-inside, stack-push, push-less, pop-less}
 use borrow.Author.Needs.{needs}
 use Rattle.nodes.proofs.nodes.Statement.{statement}
 use Rattle.nodes.proofs.nodes.Tie as tie

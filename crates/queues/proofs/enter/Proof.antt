@@ -1,17 +1,12 @@
 -- `queues::enter` meets its contract. Assumes nothing.
-use mathlib.Core.Path.{_≡_, _∙_, sym, ap}
-use mathlib.Core.Bool.{true, false}
-use Prim.Native.Nat.{_+_}
-use lib.IntN.{ℤ}
+use mathlib.Core.Path.{_∙_, sym, ap}
 use lib.Signed.{leZ}
 use denote.Ref.{now}
 use mir.Syntax.{w64}
-use mir.Val.{toZ, ofZ}
 use mir.ValLaws.{toZ-ofZ}
 use borrow.Author.Tests.{not-true, not-false}
 use Rattle.whole.specs.Whole.{kept}
-use Rattle.paper.specs.Walk.{word}
-use Rattle.tally.specs.State.{State, seen, listing}
+use Rattle.tally.specs.State.{State, listing}
 use Rattle.queues.specs.Queues.{head-spoiled, head-false, head-beside, head-due}
 use borrow.Author.Needs.{needs}
 use Rattle.queues.proofs.enter.Statement.{statement}

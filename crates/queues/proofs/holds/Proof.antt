@@ -1,7 +1,6 @@
 -- `queues::holds` meets its contract. Assumes nothing.
-use mathlib.Core.Path.{_∙_, sym, ap, subst}
-use mathlib.Core.Bool.{Bool, not}
-use lib.IntN.{ℤ}
+use mathlib.Core.Path.{_∙_, sym, ap}
+use mathlib.Core.Bool.{Bool}
 use lib.Signed.{leZ}
 use denote.Ref.{now}
 use mir.Syntax.{w64}

@@ -1,7 +1,7 @@
 -- `tally::number` meets its contract: the sum is within 31 bits. Assumes nothing.
 use mathlib.Core.Path.{_≡_, refl, sym, ap, subst, _∙_}
 use mathlib.Core.Bool.{Bool, true, false, true≢false, _&&_}
-use Prim.Native.Nat.{ℕ, _<_, _≤_, _^_}
+use Prim.Native.Nat.{ℕ, _<_}
 use native.Mathlib.Omega.{arith}
 use lib.IntN.{ℤ, pos, negℤ, _+ℤ_}
 use lib.Signed.{leZ}
@@ -10,7 +10,7 @@ use mir.Syntax.{w32, w64}
 use mir.Val.{toZ, ofZ, SFits}
 use mir.ValLaws.{toZ-ofZ, toZ-pos}
 use mir.Facts.{sfits-widen}
-use Rattle.whole.specs.Whole.{whole, of, #, _⊕_, is-le}
+use Rattle.whole.specs.Whole.{whole, of, #, _⊕_}
 use Rattle.paper.specs.Limits.{lowerFits}
 use Rattle.tally.proofs.number.Statement.{statement}
 use Rattle.tally.proofs.number.Tie as tie

@@ -1,13 +1,12 @@
 -- `walk::bad_header` meets its contract. Assumes nothing.
-use mathlib.Core.Path.{_≡_, _∙_, sym, ap, ap₂}
-use mathlib.Core.Bool.{Bool, not, _&&_, _||_}
-use lib.IntN.{ℤ, pos, negℤ, _+ℤ_}
-use lib.Signed.{leZ, ltZ}
+use mathlib.Core.Path.{_≡_, _∙_, ap₂}
+use mathlib.Core.Bool.{not, _||_}
+use lib.IntN.{ℤ, pos, _+ℤ_}
+use lib.Signed.{ltZ}
 use mir.Syntax.{w32, w64}
-use mir.Val.{SFits, toZ, ofZ}
+use mir.Val.{toZ, ofZ}
 use mir.ValLaws.{toZ-ofZ}
-use mir.Facts.{sfits-widen}
-use Rattle.whole.specs.Whole.{whole, steps, sized, of, #, _⊕_}
+use Rattle.whole.specs.Whole.{steps, sized}
 use Rattle.lists.specs.Plain.{same}
 use Rattle.paper.specs.Limits.{extentFits, lowerFits}
 use Rattle.walk.proofs.bad_header.Statement.{statement}

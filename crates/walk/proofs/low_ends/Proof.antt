@@ -1,5 +1,4 @@
 -- `walk::low_ends` meets its contract. Assumes nothing.
-use mathlib.Core.Path.{_≡_, _∙_, ap}
 use native.Mathlib.Omega.{arith}
 use denote.Ref.{now}
 use Rattle.walk.specs.Whole.{size-is, ready-for, levels-small, deep-for, low-ends}
@@ -25,29 +24,24 @@ sub-digits c =
 digits-requires : tie.Need-digits-requires
 digits-requires c κs = search needs
 
-mul-nodes : tie.Need-mul-nodes
-mul-nodes c =
-    let b = c .before .before .before .before .before .before in
-    omega (arith, size-is (now (b .args .words)) (b .args .window) (c .before .before .before .before .header .result) (c .before .before .before .before .header .ensures), b .pre .0 .most)
-
-add-nodes : tie.Need-add-nodes
-add-nodes c =
+levels-at-requires : tie.Need-levels-at-requires
+levels-at-requires c κs =
     let b = c .before .before .before .before .before .before in
     omega (arith, size-is (now (b .args .words)) (b .args .window) (c .before .before .before .before .header .result) (c .before .before .before .before .header .ensures), b .pre .0 .most)
 
 nodes-requires : tie.Need-nodes-requires
 nodes-requires c κs =
-    let b = c .before .before .before .before .before .before in
+    let b = c .before .before .before .before .before .before .before in
     let ws = now (b .args .words) in
     let w = b .args .window in
     let s = b .pre .0 in
-    let h = c .before .before .before .before .header in
-    let d = c .before .before .digits in
-    let f = c .before .before .before .search in
+    let h = c .before .before .before .before .before .header in
+    let d = c .before .before .before .digits in
+    let f = c .before .before .before .before .search in
     let e = size-is ws w (h .result) (h .ensures) in (
       ready-for ws w (h .result) (h .ensures) s,
       (
-        (omega (arith, e, b .pre .1 .0), deep-for ws w (h .result) (h .ensures) (d .result) (d .ensures) s (f .result .p) (f .ensures .inside)),
+        (omega (arith, e, b .pre .1 .0), rw (c .levels-at .ensures) (deep-for ws w (h .result) (h .ensures) (d .result) (d .ensures) s (f .result .p) (f .ensures .inside))),
         ((omega (arith, levels-small ws w (h .result) (h .ensures) (d .result) (d .ensures) s), b .pre .1 .1), omega (arith, f .ensures .visits, e, s .most)),
       ),
     )
@@ -60,12 +54,12 @@ same-length-2 c = search needs
 
 returns : tie.Need-returns
 returns c =
-    let b = c .before .before .before .before .before .before .before .before .before .before in
-    let h = c .before .before .before .before .before .before .before .before .header in
-    let d = c .before .before .before .before .before .before .digits in
-    let f = c .before .before .before .before .before .before .before .search in
+    let b = c .before .before .before .before .before .before .before .before .before .before .before in
+    let h = c .before .before .before .before .before .before .before .before .before .header in
+    let d = c .before .before .before .before .before .before .before .digits in
+    let f = c .before .before .before .before .before .before .before .before .search in
     let o = c .before .before .before .nodes in
-    low-ends (now (b .args .words)) (b .args .window) (h .result) (h .ensures) (d .result) (d .ensures) (now (b .args .numbers)) (f .result) (f .ensures) (o .result, o .last .1 .0) (o .ensures)
+    low-ends (now (b .args .words)) (b .args .window) (h .result) (h .ensures) (d .result) (d .ensures) (now (b .args .numbers)) (f .result) (f .ensures) (o .result, o .last .1 .0) (rw (c .before .before .before .before .levels-at .ensures) at (o .ensures))
 
 pub low-ends-spec : {M : Type 1} → statement M
 low-ends-spec =
@@ -75,8 +69,7 @@ low-ends-spec =
     search-requires
     sub-digits
     digits-requires
-    mul-nodes
-    add-nodes
+    levels-at-requires
     nodes-requires
     same-length
     same-length-2
