@@ -1,7 +1,7 @@
 # make                  the archive, the shared object and the Fortran module, in target/kalinosz
 # make install          .. header, module, archive, shared object and pkg-config file under PREFIX (/usr/local; DESTDIR is put before it)
 # make example          runs the worked example of docs/EXAMPLE.md through the program `survey`
-# make examples         runs the examples of all languages
+# make languages        runs the example of each language
 # make clean            takes away what the above made
 # The proved part is the archive of the crate `hosts`; only the reading of Fortran descriptors (fortran/) is added to it.
 PREFIX ?= /usr/local
@@ -47,10 +47,10 @@ example:
 	rt check survey
 	target/bin/survey <crates/survey/stdin
 
-examples:
+languages:
 	languages/run
 
 clean:
 	rm -rf $(OUT) target/languages target/bench
 
-.PHONY: all install example examples clean
+.PHONY: all install example languages clean
