@@ -1,8 +1,9 @@
 // The public calls over lent buffers. No call asks anything of its input: bad input gets its answer number and leaves every cell as it was.
 ghost use mathlib.Core.Path.{_≡_};
 ghost use lib.IntN.{pos};
-ghost use Rattle.paper.specs.Results.{Scanned, queried};
-ghost use Rattle.paper.specs.Demands.{ScanPromise, QueryPromises};
+ghost use Rattle.paper.specs.Descriptor.{firstNumber, segmentsOf};
+ghost use Rattle.paper.specs.Results.{Scanned, built, queried};
+ghost use Rattle.paper.specs.Demands.{ScanPromise, IndexOf, QueryPromises};
 use paper::Descriptor;
 use paper::Reply;
 use paper::Window;
@@ -32,6 +33,33 @@ pub fn scan(table: &[i32], descriptor: Descriptor, window: Window, numbers: &mut
     }
     let count = scan::list(table, descriptor, window, numbers);
     refusals::done(count, 0)
+}
+
+// The words of the index of a table of horizontal and vertical segments, into the first words; order 1, 2, 3, 4, 7, 5, 6.
+// Answer 0 promises that the words are the index of the table's segments, whatever stands after them: what a query asks.
+pub fn build(table: &[i32], descriptor: Descriptor, index: &mut [i32]) -> Reply
+    ensures { λ r. ⌜ (r, now (index .exit)) ≡ built (now (table .entry)) descriptor (now (index .entry)) ⌝ }
+    ensures promise { λ r. ⌜ (r .number ≡ pos 0 → IndexOf (firstNumber (descriptor .kind) (descriptor .lower)) (segmentsOf descriptor (now (table .entry))) (now (index .exit))) ⌝ }
+{
+    let number = refusals::of_table(table, descriptor);
+    if number != 0 {
+        return refusals::refusal(number, 0);
+    }
+    let n = table::count(descriptor);
+    let words = table::words(n);
+    if index.len() < words {
+        return refusals::refusal(7, 0);
+    }
+    let far = table::first_far(table, descriptor, n);
+    if far < n {
+        return refusals::refusal(5, far);
+    }
+    let slanted = table::first_slanted(table, descriptor, n);
+    if slanted < n {
+        return refusals::refusal(6, slanted);
+    }
+    builder::build_words(table, descriptor, index);
+    refusals::done(words, 0)
 }
 
 // The numbers that the walk of an index lists for a window, into the first cells; order 9, 8, 7, 10. Answer 10 sets the first n cells to 0.
