@@ -25,7 +25,7 @@ use Rattle.records.specs.Records.{recordsOf, keyOrder}
 use Rattle.records.specs.KeyOrders.{smallest-carried, one-key-carried, key-linear}
 use Rattle.levels.specs.Raising.{raised, raisedCounts, stack, raised-length, counts-length, stack-length}
 use Rattle.levels.specs.Rows.{rows, along-here, sort-none, rows-length, rows-last, raised-rows}
-use Rattle.levels.specs.Levels.{xKeys, yKeys, xWords, levels-are}
+use Rattle.levels.specs.Levels.{lowKeys, xWords, levels-are}
 use Rattle.build_block.specs.Sides.{Tidy, Nearer}
 use Rattle.build_block.specs.Blocks.{block-same}
 
@@ -43,13 +43,13 @@ module _ (d : Descriptor) (table : List ℤ) where
   low = by (lowY rs) ltb
 
   abbrev key : ℤ → ℤ → Bool
-  key = keyOrder table (yKeys d)
+  key = keyOrder table (lowKeys d 1)
 
   order-length : length order ≡ n
   order-length = sort-length (by (lowX rs) low) (positions n) ∙ positions-length n
 
   words-are : map pos order ≡ xWords d table
-  words-are = sort-map pos (by (lowX rs) low) (keyOrder table (xKeys d)) (smallest-carried table d 0 1) (positions n)
+  words-are = sort-map pos (by (lowX rs) low) (keyOrder table (lowKeys d 0)) (smallest-carried table d 0 1) (positions n)
 
   row-length : (e : ℕ) → length (map pos (rows low e order)) ≡ n
   row-length e = length-map (rows low e order) pos ∙ rows-length low e order ∙ order-length
@@ -63,7 +63,7 @@ module _ (d : Descriptor) (table : List ℤ) where
       let counted : length (raisedCounts key e ws) ≡ n = counts-length key e ws ∙ row-length (suc e) in
       let long : length up ≡ 2 * n * (e + 1) = stack-length key n e (raised key e ws) (raisedCounts key e ws) (raised-length key e ws ∙ row-length (suc e)) counted in
       win-front 0 n up (ws ++ cs) (room e long)
-      ∙ ap (λ w. win 0 n (stack key e w (raisedCounts key e ws))) (raised-rows low key (one-key-carried table d 1) (key-linear table (yKeys d)) e order)
+      ∙ ap (λ w. win 0 n (stack key e w (raisedCounts key e ws))) (raised-rows low key (one-key-carried table d 1) (key-linear table (lowKeys d 1)) e order)
       ∙ first-words e (raisedCounts key e ws) counted
     where
       room : (e : ℕ) {k : ℕ} → k ≡ 2 * n * (e + 1) → 0 + n ≤ k

@@ -1,9 +1,9 @@
-// What C hosts call: three answers on plain numbers, a refusal as its negative, and the scan and the query on lent buffers.
+// What C hosts call: three answers on plain numbers, a refusal as its negative, and the scan, the builder and the query on lent buffers.
 // Each is a few lines over the crates below; include/kalinosz.h tells C of them.
 ghost use mathlib.Core.Path.{_≡_};
 ghost use Rattle.paper.specs.Answers.{badPlace};
 ghost use Rattle.paper.specs.Hosts.{hostCell, hostWords, HostMeet};
-ghost use Rattle.paper.specs.Results.{Scanned, queried};
+ghost use Rattle.paper.specs.Results.{Scanned, built, queried};
 ghost use Rattle.hosts.specs.Answered.{cellAnswer, replyOf};
 use paper::Descriptor;
 use paper::Reply;
@@ -183,6 +183,25 @@ pub extern "C" fn kalinosz_scan(
     let descriptor = described(kind, base, lower, n, segment_stride, coordinate_stride);
     let window = window_of(a, b, c, d);
     to_host(marks::scan(table, descriptor, window, numbers))
+}
+
+#[no_mangle]
+pub extern "C" fn kalinosz_build(
+    table: &[i32],
+    kind: i64,
+    base: i64,
+    lower: i64,
+    n: i64,
+    segment_stride: i64,
+    coordinate_stride: i64,
+    index: &mut [i32],
+) -> HostReply
+    ensures { λ r. ⌜ (replyOf r, now (index .exit)) ≡ built (now (table .entry))
+        (record { kind = kind; base = base; lower = lower; extent = n; «segment_stride» = «segment_stride»; «coordinate_stride» = «coordinate_stride» })
+        (now (index .entry)) ⌝ }
+{
+    let descriptor = described(kind, base, lower, n, segment_stride, coordinate_stride);
+    to_host(marks::build(table, descriptor, index))
 }
 
 #[no_mangle]
