@@ -175,6 +175,25 @@ module _ (ws : List ℤ) (index : Index) (band : Band) (far : Bool) where
         pub skip-less : (stack′ : List ℕ) (e : ℕ) → stack′ ≡ stack → e ≡ d → work stack′ e l < work stack d s
         skip-less stack′ e es ee = rw (es, ee) (omega (arith, hl))
 
+        -- there is no left one to walk: the right one is next
+        pub stack-right : l ≡ 0 → Stacked height s₀ i₀ st₀ stack d r (i + 2 + 2 * (s / 2)) (h .tally, c)
+        stack-right none = record {
+          rest = λ w. entered w ∙ ap (λ (es : List Event). after (index .n) (index .lower) (es ++ (queueOf ws index band far w r (i + 2 + 2 * (s / 2)) ++ left w stack d)) (h .tally, c))
+              (ap (λ (k : ℕ). queueOf ws index band far w k (i + 2)) none ∙ queue-none ws index band far w (i + 2));
+          inside = omega (arith, x .inside, hr);
+          held = x .held;
+          deep = x .deep;
+          small = omega (arith, hr, x .small);
+          visits = omega (arith, x .visits, hr, hd .visits);
+          few = x .few;
+          long = lc ∙ x .long;
+          tall = x .tall;
+          room = x .room;
+        }
+
+        pub right-less : work stack d r < work stack d s
+        right-less = omega (arith, hr)
+
         abbrev a : ℕ
         a = i + 2 + 2 * (s / 2)
 

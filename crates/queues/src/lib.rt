@@ -161,11 +161,16 @@ pub fn queue(
             let right = size_if(head.right, size - 1 - half);
             let next = head.tally;
             tally = next;
-            if 0 < right {
-                depth = push(stack, depth, at + 2 + 2 * half, right);
+            if left == 0 {
+                at = at + 2 + 2 * half;
+                size = right;
+            } else {
+                if 0 < right {
+                    depth = push(stack, depth, at + 2 + 2 * half, right);
+                }
+                at = at + 2;
+                size = left;
             }
-            at = at + 2;
-            size = left;
         }
     }
     tally

@@ -6,7 +6,7 @@ use lib.ListN.{length}
 use native.Mathlib.Omega.{arith}
 use borrow.Author.Needs.{needs}
 use Rattle.tally.specs.Stack.{some-left, none-left}
-use Rattle.queues.specs.Stacks.{Stacked, work, stack-start, stack-stopped, stack-end, stack-pop, stack-push, stack-skip, stack-room, pop-less, push-less, skip-less}
+use Rattle.queues.specs.Stacks.{Stacked, work, stack-start, stack-stopped, stack-end, stack-pop, stack-push, stack-skip, stack-room, pop-less, push-less, skip-less, stack-right, right-less}
 use Rattle.queues.proofs.queue.Statement.{statement}
 use Rattle.queues.proofs.queue.Tie as tie
 
@@ -116,32 +116,20 @@ sub-size-if-2 c = search needs
 size-if-requires-2 : tie.Need-size-if-requires-2 Inv-loop μ-loop
 size-if-requires-2 c κs = search needs
 
-add-push : tie.Need-add-push Inv-loop μ-loop
-add-push c =
-    let a = c .before .before .before .before .before .before .before .before .before .before .before .before .loop in
-    let z : 0 < a .size = omega (arith, c .before .before .before .before .before .before .before .before .before .before .if1 .left) in
-    omega (arith, a .inv .inside, z, c .before .before .before .before .before .before .before .before .before .before .before .before .before .before .good .0)
-
-mul-push : tie.Need-mul-push Inv-loop μ-loop
-mul-push c =
-    let a = c .before .before .before .before .before .before .before .before .before .before .before .before .loop in
-    let z : 0 < a .size = omega (arith, c .before .before .before .before .before .before .before .before .before .before .if1 .left) in
-    omega (arith, a .inv .inside, z, c .before .before .before .before .before .before .before .before .before .before .before .before .before .before .good .0)
-
-add-push-2 : tie.Need-add-push-2 Inv-loop μ-loop
-add-push-2 c =
-    let a = c .before .before .before .before .before .before .before .before .before .before .before .before .loop in
-    let z : 0 < a .size = omega (arith, c .before .before .before .before .before .before .before .before .before .before .if1 .left) in
-    omega (arith, a .inv .inside, z, c .before .before .before .before .before .before .before .before .before .before .before .before .before .before .good .0)
-
-push-requires : tie.Need-push-requires Inv-loop μ-loop
-push-requires c κs =
-    let a = c .before .before .before .before .before .before .before .before .before .before .before .before .loop in
-    let z : 0 < a .size = omega (arith, c .before .before .before .before .before .before .before .before .before .before .if1 .left) in
-    (stack-room _ _ _ _ _ _ _ _ _ _ _ _ (a .tally, a .numbers) (a .inv) z, omega (arith, a .inv .tall, a .inv .room))
-
 add-at : tie.Need-add-at Inv-loop μ-loop
 add-at c =
+    let a = c .before .before .before .before .before .before .before .before .before .before .before .loop in
+    let z : 0 < a .size = omega (arith, c .before .before .before .before .before .before .before .before .before .if1 .left) in
+    omega (arith, a .inv .inside, z, c .before .before .before .before .before .before .before .before .before .before .before .before .before .good .0)
+
+mul-at-3 : tie.Need-mul-at-3 Inv-loop μ-loop
+mul-at-3 c =
+    let a = c .before .before .before .before .before .before .before .before .before .before .before .loop in
+    let z : 0 < a .size = omega (arith, c .before .before .before .before .before .before .before .before .before .if1 .left) in
+    omega (arith, a .inv .inside, z, c .before .before .before .before .before .before .before .before .before .before .before .before .before .good .0)
+
+add-at-2 : tie.Need-add-at-2 Inv-loop μ-loop
+add-at-2 c =
     let a = c .before .before .before .before .before .before .before .before .before .before .before .loop in
     let z : 0 < a .size = omega (arith, c .before .before .before .before .before .before .before .before .before .if1 .left) in
     omega (arith, a .inv .inside, z, c .before .before .before .before .before .before .before .before .before .before .before .before .before .good .0)
@@ -153,10 +141,7 @@ loop-less-2 c =
     let o = c .before .before .before .before .before .enter in
     let l = c .before .before .before .size-if in
     let r = c .before .before .size-if2 in
-    ⊎-elim
-    (λ w. push-less _ _ _ _ _ _ _ _ (a .stack) (a .depth) (a .size) (a .at) (a .tally, a .numbers) (a .inv) z (o .result) (o .last .1 .0) (o .ensures) (o .kept .1 .0) (l .result) (r .result) (l .ensures) (r .ensures) (c .if3 .stack) (c .if3 .depth) (w .5 ∙ w .2 .ensures .1) (w .6 ∙ w .2 .ensures .0))
-    (λ w. skip-less _ _ _ _ _ _ _ _ (a .stack) (a .depth) (a .size) (a .at) (a .tally, a .numbers) (a .inv) z (o .result) (o .last .1 .0) (o .ensures) (o .kept .1 .0) (l .result) (r .result) (l .ensures) (r .ensures) (c .if3 .stack) (c .if3 .depth) (w .1) (w .2))
-    (c .if3 .came)
+    right-less _ _ _ _ _ _ _ _ (a .stack) (a .depth) (a .size) (a .at) (a .tally, a .numbers) (a .inv) z (o .result) (o .last .1 .0) (o .ensures) (o .kept .1 .0) (l .result) (r .result) (l .ensures) (r .ensures)
 
 loop-again-2 : tie.Need-loop-again-2 Inv-loop μ-loop
 loop-again-2 c =
@@ -165,10 +150,61 @@ loop-again-2 c =
     let o = c .before .before .before .before .before .enter in
     let l = c .before .before .before .size-if in
     let r = c .before .before .size-if2 in
+    stack-right _ _ _ _ _ _ _ _ (a .stack) (a .depth) (a .size) (a .at) (a .tally, a .numbers) (a .inv) z (o .result) (o .last .1 .0) (o .ensures) (o .kept .1 .0) (l .result) (r .result) (l .ensures) (r .ensures) (c .if3 .taken)
+
+add-push : tie.Need-add-push Inv-loop μ-loop
+add-push c =
+    let a = c .before .before .before .before .before .before .before .before .before .before .before .before .before .loop in
+    let z : 0 < a .size = omega (arith, c .before .before .before .before .before .before .before .before .before .before .before .if1 .left) in
+    omega (arith, a .inv .inside, z, c .before .before .before .before .before .before .before .before .before .before .before .before .before .before .before .good .0)
+
+mul-push : tie.Need-mul-push Inv-loop μ-loop
+mul-push c =
+    let a = c .before .before .before .before .before .before .before .before .before .before .before .before .before .loop in
+    let z : 0 < a .size = omega (arith, c .before .before .before .before .before .before .before .before .before .before .before .if1 .left) in
+    omega (arith, a .inv .inside, z, c .before .before .before .before .before .before .before .before .before .before .before .before .before .before .before .good .0)
+
+add-push-2 : tie.Need-add-push-2 Inv-loop μ-loop
+add-push-2 c =
+    let a = c .before .before .before .before .before .before .before .before .before .before .before .before .before .loop in
+    let z : 0 < a .size = omega (arith, c .before .before .before .before .before .before .before .before .before .before .before .if1 .left) in
+    omega (arith, a .inv .inside, z, c .before .before .before .before .before .before .before .before .before .before .before .before .before .before .before .good .0)
+
+push-requires : tie.Need-push-requires Inv-loop μ-loop
+push-requires c κs =
+    let a = c .before .before .before .before .before .before .before .before .before .before .before .before .before .loop in
+    let z : 0 < a .size = omega (arith, c .before .before .before .before .before .before .before .before .before .before .before .if1 .left) in
+    (stack-room _ _ _ _ _ _ _ _ _ _ _ _ (a .tally, a .numbers) (a .inv) z, omega (arith, a .inv .tall, a .inv .room))
+
+add-at-3 : tie.Need-add-at-3 Inv-loop μ-loop
+add-at-3 c =
+    let a = c .before .before .before .before .before .before .before .before .before .before .before .before .loop in
+    let z : 0 < a .size = omega (arith, c .before .before .before .before .before .before .before .before .before .before .if1 .left) in
+    omega (arith, a .inv .inside, z, c .before .before .before .before .before .before .before .before .before .before .before .before .before .before .good .0)
+
+loop-less-3 : tie.Need-loop-less-3 Inv-loop μ-loop
+loop-less-3 c =
+    let a = c .before .before .before .before .before .before .before .before .before .before .before .before .loop in
+    let z : 0 < a .size = omega (arith, c .before .before .before .before .before .before .before .before .before .before .if1 .left) in
+    let o = c .before .before .before .before .before .before .enter in
+    let l = c .before .before .before .before .size-if in
+    let r = c .before .before .before .size-if2 in
     ⊎-elim
-    (λ w. stack-push _ _ _ _ _ _ _ _ (a .stack) (a .depth) (a .size) (a .at) (a .tally, a .numbers) (a .inv) z (o .result) (o .last .1 .0) (o .ensures) (o .kept .1 .0) (l .result) (r .result) (l .ensures) (r .ensures) (c .if3 .stack) (c .if3 .depth) (w .5 ∙ w .2 .ensures .1) (w .6 ∙ w .2 .ensures .0))
-    (λ w. stack-skip _ _ _ _ _ _ _ _ (a .stack) (a .depth) (a .size) (a .at) (a .tally, a .numbers) (a .inv) z (o .result) (o .last .1 .0) (o .ensures) (o .kept .1 .0) (l .result) (r .result) (l .ensures) (r .ensures) (c .if3 .stack) (c .if3 .depth) (w .1) (w .2) (omega (arith, w .0 .left)))
-    (c .if3 .came)
+    (λ w. push-less _ _ _ _ _ _ _ _ (a .stack) (a .depth) (a .size) (a .at) (a .tally, a .numbers) (a .inv) z (o .result) (o .last .1 .0) (o .ensures) (o .kept .1 .0) (l .result) (r .result) (l .ensures) (r .ensures) (c .if4 .stack) (c .if4 .depth) (w .5 ∙ w .2 .ensures .1) (w .6 ∙ w .2 .ensures .0))
+    (λ w. skip-less _ _ _ _ _ _ _ _ (a .stack) (a .depth) (a .size) (a .at) (a .tally, a .numbers) (a .inv) z (o .result) (o .last .1 .0) (o .ensures) (o .kept .1 .0) (l .result) (r .result) (l .ensures) (r .ensures) (c .if4 .stack) (c .if4 .depth) (w .1) (w .2))
+    (c .if4 .came)
+
+loop-again-3 : tie.Need-loop-again-3 Inv-loop μ-loop
+loop-again-3 c =
+    let a = c .before .before .before .before .before .before .before .before .before .before .before .before .loop in
+    let z : 0 < a .size = omega (arith, c .before .before .before .before .before .before .before .before .before .before .if1 .left) in
+    let o = c .before .before .before .before .before .before .enter in
+    let l = c .before .before .before .before .size-if in
+    let r = c .before .before .before .size-if2 in
+    ⊎-elim
+    (λ w. stack-push _ _ _ _ _ _ _ _ (a .stack) (a .depth) (a .size) (a .at) (a .tally, a .numbers) (a .inv) z (o .result) (o .last .1 .0) (o .ensures) (o .kept .1 .0) (l .result) (r .result) (l .ensures) (r .ensures) (c .if4 .stack) (c .if4 .depth) (w .5 ∙ w .2 .ensures .1) (w .6 ∙ w .2 .ensures .0))
+    (λ w. stack-skip _ _ _ _ _ _ _ _ (a .stack) (a .depth) (a .size) (a .at) (a .tally, a .numbers) (a .inv) z (o .result) (o .last .1 .0) (o .ensures) (o .kept .1 .0) (l .result) (r .result) (l .ensures) (r .ensures) (c .if4 .stack) (c .if4 .depth) (w .1) (w .2) (omega (arith, w .0 .left)))
+    (c .if4 .came)
 
 same-length-3 : tie.Need-same-length-3 Inv-loop μ-loop
 same-length-3 c =
@@ -209,13 +245,18 @@ queue-spec =
     sub-size-if
     sub-size-if-2
     size-if-requires-2
+    add-at
+    mul-at-3
+    add-at-2
+    loop-less-2
+    loop-again-2
     add-push
     mul-push
     add-push-2
     push-requires
-    add-at
-    loop-less-2
-    loop-again-2
+    add-at-3
+    loop-less-3
+    loop-again-3
     same-length-3
     same-length-4
     returns-2)
