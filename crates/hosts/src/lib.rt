@@ -200,8 +200,11 @@ pub extern "C" fn kalinosz_build(
         (record { kind = kind; base = base; lower = lower; extent = n; «segment_stride» = «segment_stride»; «coordinate_stride» = «coordinate_stride» })
         (now (index .entry)) ⌝ }
 {
-    let descriptor = described(kind, base, lower, n, segment_stride, coordinate_stride);
-    to_host(marks::build(table, descriptor, index))
+    to_host(marks::build(
+        table,
+        described(kind, base, lower, n, segment_stride, coordinate_stride),
+        index,
+    ))
 }
 
 #[no_mangle]
