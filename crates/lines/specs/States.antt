@@ -1,0 +1,117 @@
+-- The code's state as `paper`'s, and what T and S lines do to it.
+use mathlib.Core.Path.{_≡_, refl, sym, ap, ap₂, _∙_, subst}
+use mathlib.Core.Bool.{Bool, true, false, cond}
+use mathlib.Core.List.{List, [], _∷_, _++_, map}
+use Prim.Native.Nat.{ℕ, zero, suc, _+_, _-_, _*_, _≤_, _<_}
+use native.Mathlib.Omega.{arith}
+use lib.IntN.{ℤ, pos, _+ℤ_, _*ℤ_}
+use lib.ListN.{length, take, drop, getD}
+use Rattle.lists.specs.Plain.{positions, toNat}
+use Rattle.lists.specs.Parts.{put}
+use Rattle.paper.specs.Descriptor.{firstNumber, cellOf, sizeOf, segmentOf, segmentsOf}
+use Rattle.paper.specs.Answers.{badKind, badLower, badCoordinate, badSlant, farOff, slanted}
+use Rattle.paper.specs.Words.{W, indexWords}
+use Rattle.paper.specs.Lines.{Line, table, segment, window, other, Read, fault, next, start, filling, asking, read, readTable, readSegment}
+use Rattle.paper.specs.Lines as lines
+use Rattle.paper.specs.declared.Descriptor.{Descriptor}
+use Rattle.paper.specs.declared.Segment.{Segment}
+use Rattle.paper.specs.declared.Window.{Window}
+use Rattle.lines.specs.declared.Table.{Table}
+use Rattle.lines.specs.declared.State.{State}
+use Rattle.lines.specs.declared.State.the-variants.{Start, Filling, Asking}
+use Rattle.lines.specs.declared.Step.{Step}
+use Rattle.lines.specs.declared.Step.the-variants.{Fault, Next}
+
+-- the cells of a segment
+abbrev pub cellsOf : Segment → List ℤ
+cellsOf s = s .x1 ∷ s .y1 ∷ s .x2 ∷ s .y2 ∷ []
+
+-- how a table's segments stand in the cells
+abbrev pub descriptorOf : Table → Descriptor
+descriptorOf t = record {
+  kind = t .kind;
+  base = pos 0;
+  lower = t .lower;
+  extent = pos (t .size);
+  «segment_stride» = pos 4;
+  «coordinate_stride» = pos 1;
+}
+
+abbrev pub firstOf : Table → ℤ
+firstOf t = firstNumber (t .kind) (t .lower)
+
+abbrev pub segmentsIn : Table → List ℤ → List Segment
+segmentsIn t cells = segmentsOf (descriptorOf t) cells
+
+abbrev pub stateOf : State → List ℤ → lines.State
+stateOf Start cells = start
+stateOf (Filling t) cells = filling (firstOf t) (segmentsIn t cells)
+stateOf (Asking t) cells = asking (firstOf t) (segmentsIn t cells)
+
+-- a table that the lines so far have passed
+pub record Fits (t : Table) (cells : List ℤ) : Type 0 where
+  pub kind : badKind (t .kind) .given ≡ false
+  pub lower : badLower (t .kind) (t .lower) .given ≡ false
+  pub size : t .size ≤ 256
+  pub near : (p : ℕ) → p < t .size → farOff (segmentOf (descriptorOf t) cells p) ≡ false
+  pub straight : (p : ℕ) → p < t .size → slanted (segmentOf (descriptorOf t) cells p) ≡ false
+
+-- what a step says, with the cells after it and the text that it has printed
+abbrev pub outcome : Step → List ℤ → List ℕ → Read
+outcome (Fault n) cells text = fault n
+outcome (Next s place) cells text = next (stateOf s cells) text
+
+-- ---- a T line
+abbrev pub KeptT : Step → ℕ → Type 0
+KeptT (Fault n) at = n ≤ 2
+KeptT (Next Start place) at = ⊥
+KeptT (Next (Filling t) place) at = (place ≡ at) × (t .size ≡ 0) × ((cells : List ℤ) → Fits t cells)
+KeptT (Next (Asking t) place) at = ⊥
+
+pub record Opened (line : Line) (at : ℕ) (r : Step) : Type 0 where
+  pub reads : (cells : List ℤ) → read start line ≡ outcome r cells []
+  pub kept : KeptT r at
+
+-- ---- an S line
+abbrev pub KeptS : Step → ℕ → List ℤ → Type 0
+KeptS (Fault n) at cells = n ≤ 8
+KeptS (Next Start place) at cells = ⊥
+KeptS (Next (Filling t) place) at cells = (place ≡ at) × Fits t cells
+KeptS (Next (Asking t) place) at cells = ⊥
+
+pub record Added (t : Table) (s : Segment) (cells : List ℤ) (at : ℕ) (r : Step) (after : List ℤ) : Type 0 where
+  pub reads : readSegment (firstOf t) (segmentsIn t cells) s ≡ outcome r after []
+  pub kept : KeptS r at after
+
+module _ (at : ℕ) where
+  -- a line of another place
+  pub not-opened : (line : Line) → read start line ≡ fault 0 → Opened line at (Fault 0)
+  not-opened line e = record { reads = λ cells. e; kept = omega arith }
+
+  pub S-first : (s : Segment) → Opened (segment s) at (Fault 0)
+  unfolding read
+  S-first s = not-opened (segment s) refl
+
+  pub W-first : (w : Window) → Opened (window w) at (Fault 0)
+  unfolding read
+  W-first w = not-opened (window w) refl
+
+  pub other-first : Opened other at (Fault 0)
+  unfolding read
+  other-first = not-opened other refl
+
+  module _ (kind lower : ℤ) where
+    pub T-kind : badKind kind .given ≡ true → Opened (table kind lower) at (Fault 1)
+    unfolding read
+    T-kind e = record { reads = λ cells. rw e refl; kept = omega arith }
+
+    pub T-lower : badKind kind .given ≡ false → badLower kind lower .given ≡ true → Opened (table kind lower) at (Fault 2)
+    unfolding read
+    T-lower k e = record { reads = λ cells. rw (k, e) refl; kept = omega arith }
+
+    pub T-good : badKind kind .given ≡ false → badLower kind lower .given ≡ false → Opened (table kind lower) at (Next (Filling (record { kind = kind; lower = lower; size = 0 })) at)
+    unfolding read segmentsOf positions
+    T-good k e = record {
+      reads = λ cells. rw (k, e) refl;
+      kept = (refl, refl, λ cells. record { kind = k; lower = e; size = omega arith; near = λ p h. absurd (omega arith); straight = λ p h. absurd (omega arith) });
+    }
