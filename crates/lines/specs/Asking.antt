@@ -1,0 +1,132 @@
+-- A W line: the builder refuses nothing that the T and S lines have passed, its words are those of the index, and an A line does not depend on what the
+-- number cells held before.
+use mathlib.Core.Path.{_≡_, refl, sym, ap, ap₂, _∙_, subst}
+use mathlib.Core.Bool.{Bool, true, false, not, cond, _&&_, _||_}
+use mathlib.Core.List.{List, [], _∷_, _++_, map}
+use Prim.Native.Nat.{ℕ, zero, suc, _+_, _-_, _*_, _^_, _≤_, _<_}
+use native.Mathlib.Nat.{mul-le-mul}
+use native.Mathlib.Omega.{arith}
+use lib.Dec.{leb, ltb}
+use borrow.Author.Tests.{le-leb, lt-leb, le-ltb}
+use lib.IntN.{ℤ, pos}
+use lib.ListN.{length, take, drop, replicate, length-map, length-replicate}
+use lib.Seq.{take-append-seam}
+use Rattle.lists.specs.Plain.{filter, positions, any, toNat}
+use Rattle.lists.specs.Digits.{digits-least}
+use Rattle.lists.specs.Choosing.{any-none, filter-none}
+use Rattle.paper.specs.Descriptor.{firstNumber, cellOf, sizeOf, segmentOf, segmentsOf, outside}
+use Rattle.paper.specs.Answers.{Answer, answerAt, positionsOf, badKind, badLower, badExtent, badCells, badCoordinate, badSlant, badBuffer, badWindow, farOff, slanted, judged, refused, done}
+use Rattle.paper.specs.Words.{L, D, W, indexWords}
+use Rattle.paper.specs.Walk.{Walked, walked, stopped, word, sizeIn, walkOf}
+use Rattle.paper.specs.Orders.{builderOrder, queryOrder, badIndex, badWalk}
+use Rattle.paper.specs.Results.{Result, over, afterRefusal, numbersOf, built, listing, queried}
+use Rattle.paper.specs.Demands.{Straight}
+use Rattle.paper.specs.Lines.{printed, tabbed, letter-A}
+use Rattle.paper.specs.declared.Segment.{Segment}
+use Rattle.paper.specs.declared.Window.{Window}
+use Rattle.table.specs.Cells.{badStride, rowOutside}
+use Rattle.table.specs.Rows.{cells-by}
+use Rattle.table.specs.Segments.{length-segments, chosen-are}
+use Rattle.promise.specs.Index.{index-length}
+use Rattle.lines.specs.States.{descriptorOf, firstOf, segmentsIn, Fits}
+use Rattle.lines.specs.declared.Table.{Table}
+
+-- ---- an A line, whatever stood in the cells
+same-print : (ws : List ℤ) (w : Window) (xs ys : List ℤ) → length xs ≡ length ys → printed (queried ws w xs) ≡ printed (queried ws w ys)
+unfolding queried listing
+same-print ws w xs ys e =
+    ap (λ n. printed (answers (badIndex ws .given) (badWindow w .given) (ltb n (sizeIn ws)) (badWalk (walkOf ws w) .given) xs)) e
+    ∙ go (badIndex ws .given) (badWindow w .given) (ltb (length ys) (sizeIn ws)) (badWalk (walkOf ws w) .given) (walkOf ws w)
+  where
+    answers : Bool → Bool → Bool → Bool → List ℤ → Result
+    answers b c d f cells =
+        cond b (refused (badIndex ws), afterRefusal (badIndex ws) (sizeIn ws) cells)
+        (cond c (refused (badWindow w), afterRefusal (badWindow w) (sizeIn ws) cells)
+        (cond d (refused (badBuffer (sizeIn ws) 0), afterRefusal (badBuffer (sizeIn ws) 0) (sizeIn ws) cells)
+        (cond f (refused (badWalk (walkOf ws w)), afterRefusal (badWalk (walkOf ws w)) (sizeIn ws) cells) (listing (word ws 1) cells (walkOf ws w)))))
+
+    list : (r : Walked) → printed (listing (word ws 1) xs r) ≡ printed (listing (word ws 1) ys r)
+    list (walked ps v) =
+        ap (λ l. letter-A ∷ tabbed (pos (length ps) ∷ pos v ∷ l)) (front xs ∙ sym (front ys))
+      where
+        front : (cells : List ℤ) → take (length ps) (over (numbersOf (word ws 1) ps) cells) ≡ numbersOf (word ws 1) ps
+        front cells =
+            ap (λ n. take n (over (numbersOf (word ws 1) ps) cells)) (sym (length-map ps _))
+            ∙ take-append-seam (numbersOf (word ws 1) ps) (drop (length (numbersOf (word ws 1) ps)) cells)
+    list stopped = refl
+
+    go : (b c d f : Bool) (r : Walked) → printed (answers b c d f xs) ≡ printed (answers b c d f ys)
+    go true c d f r = refl
+    go false true d f r = refl
+    go false false true f r = refl
+    go false false false true r = refl
+    go false false false false r = list (walkOf ws w)
+
+-- the cells of a program's numbers are as many as its segments
+pub printed-over : (ws : List ℤ) (w : Window) (n : ℕ) (cells : List ℤ) → length cells ≡ n → printed (queried ws w cells) ≡ printed (queried ws w (replicate n (pos 0)))
+printed-over ws w n cells e = same-print ws w cells (replicate n (pos 0)) (e ∙ sym (length-replicate n (pos 0)))
+
+-- ---- the words that at most 256 segments take
+pub most-words : (n : ℕ) → n ≤ 256 → W n ≤ 7684
+most-words n h =
+    let d : L (n - 1) ≤ 8 = digits-least (n - 1) 8 (omega arith) in
+    let l : D n ≤ 9 = omega arith in
+    let m : n * D n ≤ 256 * 9 = mul-le-mul h l in
+    omega (arith, twice n (D n), m)
+  where
+    twice : (a b : ℕ) → 2 * a * b ≡ 2 * (a * b)
+    twice a b = omega arith
+
+-- ---- what the lines have passed, the builder accepts
+module _ (t : Table) (cells : List ℤ) (fit : Fits t cells) where
+  none-given : (number : ℕ) (q : Segment → Bool) → ((p : ℕ) → p < t .size → q (segmentOf (descriptorOf t) cells p) ≡ false) → answerAt number (positionsOf q (segmentsIn t cells)) .given ≡ false
+  none-given number q h =
+      ap (λ ps. answerAt number ps .given) (chosen-are (descriptorOf t) cells q ∙ filter-none (λ p. q (segmentOf (descriptorOf t) cells p)) (t .size) h)
+
+  pub size-is : length (segmentsIn t cells) ≡ t .size
+  size-is = length-segments (descriptorOf t) cells
+
+  pub accepted : Straight (segmentsIn t cells)
+  accepted = record {
+    size = omega (arith, size-is, fit .size);
+    coordinates = none-given 5 farOff (fit .near);
+    straight = none-given 6 slanted (fit .straight);
+  }
+
+  -- as many words as the builder says
+  pub words-are : length (indexWords (firstOf t) (segmentsIn t cells)) ≡ W (t .size)
+  words-are = index-length (firstOf t) (segmentsIn t cells) accepted ∙ ap W size-is
+
+  extent-good : badExtent (pos (t .size)) .given ≡ false
+  extent-good = ap₂ (λ a b. not (a && b)) (le-leb 0 (t .size) (omega arith)) (le-leb (t .size) 4096 (omega (arith, fit .size)))
+
+  module _ (long : length cells ≡ 1024) where
+    cell-inside : (p j : ℕ) → p < t .size → j < 4 → outside (pos (length cells)) (cellOf (descriptorOf t) p j) ≡ false
+    cell-inside p j h k = ap₂ _||_ (le-ltb (0 + p * 4 + j * 1) 0 (omega arith)) (lt-leb (length cells) (0 + p * 4 + j * 1) (omega (arith, fit .size)))
+
+    cells-good : badCells (pos (length cells)) (descriptorOf t) .given ≡ false
+    cells-good =
+        sym
+        (cells-by (pos (length cells)) (descriptorOf t) refl
+        (sym
+        (any-none (rowOutside (pos (length cells)) (descriptorOf t)) (t .size)
+        (λ p h. any-none (λ j. outside (pos (length cells)) (cellOf (descriptorOf t) p j)) 4 (λ j k. cell-inside p j h k)))))
+
+    pub built-done : (index : List ℤ) → length index ≡ 7684 → built cells (descriptorOf t) index ≡ (done (W (t .size)) 0, over (indexWords (firstOf t) (segmentsIn t cells)) index)
+    unfolding built
+    built-done index l =
+        rw
+        (fit .kind,
+        fit .lower,
+        extent-good,
+        cells-good,
+        le-ltb (length index) (W (t .size)) (omega (arith, most-words (t .size) (fit .size))),
+        accepted .coordinates,
+        accepted .straight)
+        refl
+
+    -- the words that a query is asked over
+    pub words-ready : (index : List ℤ) → take (W (t .size)) (over (indexWords (firstOf t) (segmentsIn t cells)) index) ≡ indexWords (firstOf t) (segmentsIn t cells)
+    words-ready index =
+        ap (λ n. take n (over (indexWords (firstOf t) (segmentsIn t cells)) index)) (sym words-are)
+        ∙ take-append-seam (indexWords (firstOf t) (segmentsIn t cells)) (drop (length (indexWords (firstOf t) (segmentsIn t cells))) index)
