@@ -27,3 +27,10 @@ module _ (P : Line → Type 0) where
   no-window (parsed.Segment x) h t s o = s x
   no-window (parsed.Window x) h t s o = absurd (⊎-elim (λ e. omega arith) (⊎-elim (λ e. omega arith) (λ e. omega arith)) h)
   no-window parsed.Other h t s o = o
+
+  -- where an S line has been taken out before
+  pub no-segment-window : (line : Parsed) → OneOf (0 ∷ 2 ∷ 3 ∷ []) (tagOf the-type line) → OneOf (0 ∷ 1 ∷ 3 ∷ []) (tagOf the-type line) → ((k l : ℤ) → P (table k l)) → P other → P (shownLine line)
+  no-segment-window (parsed.Table k l) n h t o = t k l
+  no-segment-window (parsed.Segment x) n h t o = absurd (⊎-elim (λ e. omega arith) (⊎-elim (λ e. omega arith) (λ e. omega arith)) n)
+  no-segment-window (parsed.Window x) n h t o = absurd (⊎-elim (λ e. omega arith) (⊎-elim (λ e. omega arith) (λ e. omega arith)) h)
+  no-segment-window parsed.Other n h t o = o

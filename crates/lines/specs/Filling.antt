@@ -26,7 +26,7 @@ use Rattle.paper.specs.declared.Segment.{Segment}
 use Rattle.lines.specs.States.{cellsOf, descriptorOf, firstOf, segmentsIn, Fits, outcome, Added}
 use Rattle.lines.specs.declared.Table.{Table}
 use Rattle.lines.specs.declared.State.the-variants.{Filling}
-use Rattle.lines.specs.declared.Step.the-variants.{Fault, Next}
+use Rattle.lines.specs.declared.Outcome.the-variants.{Fault, Next}
 
 -- ---- coordinates within their limits fit a cell
 coordinate-fits : (z : ℤ) → coordinateFits z ≡ true → SFits w32 z

@@ -3,3 +3,5 @@ pub mod States
 pub mod Filling
 pub mod Asking
 pub mod Cutting
+pub mod Steps
+pub mod Reading

@@ -2,4 +2,4 @@
 pub mod Digits
 pub mod Written
 pub mod Signs
-pub mod Due
+pub mod Printed

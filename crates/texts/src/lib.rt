@@ -3,7 +3,7 @@
 ghost use mathlib.Core.Path.{_≡_};
 ghost use mathlib.Core.Bool.{true};
 ghost use mathlib.Core.List.{List, [], _∷_};
-ghost use Prim.Native.Nat.{ℕ, _+_, _≤_, _<_, min};
+ghost use Prim.Native.Nat.{ℕ, _+_, _*_, _≤_, _<_, min};
 ghost use lib.IntN.{ℤ, pos, negsuc};
 ghost use lib.Signed.{ltZ};
 ghost use lib.ListN.{length, take};
@@ -112,7 +112,8 @@ fn least(a: usize, b: usize) -> usize
 
 // The first of some numbers, each after a tab, and a line feed.
 fn put_tabbed(out: &mut [u8], at: usize, numbers: &[i32], count: usize) -> usize
-    requires { ⌜ at + length (tabbed (take count (now numbers))) ≤ length (now out) ⌝ }
+    requires { ⌜ at + 21 * length (now numbers) + 1 ≤ length (now out) ⌝ }
+    ensures within { λ r. ⌜ r ≤ length (now (out .entry)) ⌝ }
     ensures { λ r. ⌜ Written (tabbed (take count (now (numbers .entry)))) at (now (out .entry)) r (now (out .exit)) ⌝ }
 {
     let n = least(count, numbers.len());
@@ -129,7 +130,8 @@ fn put_tabbed(out: &mut [u8], at: usize, numbers: &[i32], count: usize) -> usize
 
 // A, count, visits, numbers.
 pub fn put_answer(out: &mut [u8], at: usize, reply: Reply, numbers: &[i32]) -> usize
-    requires { ⌜ at + length (printed (reply, now numbers)) ≤ length (now out) ⌝ }
+    requires { ⌜ at + 21 * length (now numbers) + 44 ≤ length (now out) ⌝ }
+    ensures within { λ r. ⌜ r ≤ length (now (out .entry)) ⌝ }
     ensures { λ r. ⌜ Written (printed (reply, now (numbers .entry))) at (now (out .entry)) r (now (out .exit)) ⌝ }
 {
     let count = size(reply.count);
@@ -142,6 +144,7 @@ pub fn put_answer(out: &mut [u8], at: usize, reply: Reply, numbers: &[i32]) -> u
 // R, answer number, line number.
 pub fn put_fault(out: &mut [u8], at: usize, number: usize, line: usize) -> usize
     requires { ⌜ at + 44 ≤ length (now out) ⌝ }
+    ensures within { λ r. ⌜ r ≤ length (now (out .entry)) ⌝ }
     ensures { λ r. ⌜ Written (letter-R ∷ tabbed (pos number ∷ pos line ∷ [])) at (now (out .entry)) r (now (out .exit)) ⌝ }
 {
     out[at] = b'R';

@@ -5,7 +5,7 @@ use Rattle.paper.specs.Lines.{table}
 use Rattle.whole.specs.Whole.{kept}
 use Rattle.fields.specs.Forms.{shownLine}
 use Rattle.lines.specs.States.{Opened, S-first, W-first, other-first, T-kind, T-lower, T-good}
-use Rattle.lines.specs.declared.Step.the-variants.{Fault, Next}
+use Rattle.lines.specs.declared.Outcome.the-variants.{Fault, Next}
 use Rattle.lines.specs.declared.State.the-variants.{Filling}
 use Rattle.lines.proofs.Tags.{no-table}
 use borrow.Author.Needs.{needs}

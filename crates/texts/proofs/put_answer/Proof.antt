@@ -10,7 +10,7 @@ use Rattle.lists.specs.Plain.{toNat}
 use Rattle.paper.specs.Lines.{tab, decimal, tabbed, printed}
 use Rattle.whole.specs.Whole.{kept}
 use Rattle.texts.specs.Written.{Written}
-use Rattle.texts.specs.Due.{answer-length, answer-written}
+use Rattle.texts.specs.Printed.{field-le, answer-written}
 use borrow.Author.Needs.{needs}
 use Rattle.texts.proofs.put_answer.Statement.{statement}
 use Rattle.texts.proofs.put_answer.Tie as tie
@@ -26,9 +26,12 @@ count-is c = kept w64 (c .before .before .args .reply .count) (c .struct-told .g
 visits-is : (c : tie.After-struct-told) → toZ w64 (ofZ w64 (c .before .before .args .reply .visits)) ≡ c .before .before .args .reply .visits
 visits-is c = kept w64 (c .before .before .args .reply .visits) (c .struct-told .given .1 .1 .0 .1)
 
--- the lengths of the parts, as the caller made room for them
-parts-fit : (s : tie.Start) → s .args .at + (1 + (length (tab ∷ decimal (s .args .reply .count)) + (length (tab ∷ decimal (s .args .reply .visits)) + length (tabbed (take (toNat (s .args .reply .count)) (s .args .numbers .now)))))) ≤ length (s .args .out .now)
-parts-fit s = omega (arith, s .pre, answer-length (s .args .reply, s .args .numbers .now))
+-- both are short
+counts-short : (c : tie.After-struct-told) → length (tab ∷ decimal (c .before .before .args .reply .count)) ≤ 21
+counts-short c = field-le (c .before .before .args .reply .count) (c .struct-told .given .1 .0 .1)
+
+visits-short : (c : tie.After-struct-told) → length (tab ∷ decimal (c .before .before .args .reply .visits)) ≤ 21
+visits-short c = field-le (c .before .before .args .reply .visits) (c .struct-told .given .1 .1 .0 .1)
 
 first : (c : tie.After-put-field) → Written (tab ∷ decimal (c .before .before .before .before .before .before .args .reply .count)) (c .before .before .before .before .before .before .args .at + 1) (set (c .before .before .before .before .before .before .args .out .now) (c .before .before .before .before .before .before .args .at) 65) (c .put-field .result) (c .put-field .last .0)
 first c = subst (λ z. Written (tab ∷ decimal z) (c .before .before .before .before .before .before .args .at + 1) (set (c .before .before .before .before .before .before .args .out .now) (c .before .before .before .before .before .before .args .at) 65) (c .put-field .result) (c .put-field .last .0)) (count-is (c .before .before .before .before)) (c .put-field .ensures)
@@ -56,7 +59,7 @@ add-put-field c = search needs
 put-field-requires : tie.Need-put-field-requires
 put-field-requires c κs =
     let s = c .before .before .before .before .before in
-    subst (λ z. s .args .at + 1 + length (tab ∷ decimal z) ≤ length (set (s .args .out .now) (s .args .at) 65)) (sym (count-is (c .before .before .before))) (omega (arith, s .pre, answer-length (s .args .reply, s .args .numbers .now), length-set (s .args .out .now) (s .args .at) 65))
+    subst (λ z. s .args .at + 1 + length (tab ∷ decimal z) ≤ length (set (s .args .out .now) (s .args .at) 65)) (sym (count-is (c .before .before .before))) (omega (arith, s .pre, counts-short (c .before .before .before), length-set (s .args .out .now) (s .args .at) 65))
 
 -- src/lib.rt:138:9
 put-field-requires-2 : tie.Need-put-field-requires-2
@@ -64,7 +67,7 @@ put-field-requires-2 c κs =
     let s = c .before .before .before .before .before .before .before .before .before .before in
     let a = c .before .before .before .before in
     subst (λ z. a .put-field .result + length (tab ∷ decimal z) ≤ length (a .put-field .last .0)) (sym (visits-is (c .before .before .before .before .before .before .before .before)))
-    (omega (arith, parts-fit s, first a .ends, a .put-field .kept .0, length-set (s .args .out .now) (s .args .at) 65))
+    (omega (arith, s .pre, counts-short (c .before .before .before .before .before .before .before .before), visits-short (c .before .before .before .before .before .before .before .before), first a .ends, a .put-field .kept .0, length-set (s .args .out .now) (s .args .at) 65))
 
 -- src/lib.rt:139:5
 put-tabbed-requires : tie.Need-put-tabbed-requires
@@ -72,8 +75,7 @@ put-tabbed-requires c κs =
     let s = c .before .before .before .before .before .before .before .before .before .before .before .before .before .before in
     let a = c .before .before .before .before .before .before .before .before in
     let b = c .before .before .before in
-    subst (λ n. b .put-field2 .result + length (tabbed (take n (s .args .numbers .now))) ≤ length (b .put-field2 .last .0)) (sym (listed (c .before .before .before .before .before .before .before .before .before .before .before)))
-    (omega (arith, parts-fit s, first a .ends, second b .ends, a .put-field .kept .0, b .put-field2 .kept .0, length-set (s .args .out .now) (s .args .at) 65))
+    omega (arith, s .pre, counts-short (c .before .before .before .before .before .before .before .before .before .before .before .before), visits-short (c .before .before .before .before .before .before .before .before .before .before .before .before), first a .ends, second b .ends, a .put-field .kept .0, b .put-field2 .kept .0, length-set (s .args .out .now) (s .args .at) 65)
 
 -- src/lib.rt:131:1
 same-length : tie.Need-same-length
@@ -85,8 +87,14 @@ same-length c =
 returns : tie.Need-returns
 returns c =
     let s = c .before .before .before .before .before .before .before .before .before .before .before .before .before .before .before .before .before in
-    answer-written (s .args .reply, s .args .numbers .now) (s .pre) (first (c .before .before .before .before .before .before .before .before .before .before .before)) (second (c .before .before .before .before .before .before))
-    (subst (λ n. Written (tabbed (take n (s .args .numbers .now))) (c .before .before .before .before .before .before .put-field2 .result) (c .before .before .before .before .before .before .put-field2 .last .0) (c .before .before .put-tabbed .result) (c .before .before .put-tabbed .last .0)) (listed (c .before .before .before .before .before .before .before .before .before .before .before .before .before .before)) (c .before .before .put-tabbed .ensures))
+    let a = c .before .before .before .before .before .before .before .before .before .before .before in
+    let b = c .before .before .before .before .before .before in
+    let t = c .before .before .put-tabbed in
+    let x = length-set (s .args .out .now) (s .args .at) 65 in
+    let h : t .result ≤ length (s .args .out .now) = omega (arith, t .ensures .0, b .put-field2 .kept .0, a .put-field .kept .0, x) in
+    (h,
+      answer-written (s .args .reply, s .args .numbers .now) (omega (arith, s .pre)) (omega (arith, s .pre, first a .ends, counts-short (c .before .before .before .before .before .before .before .before .before .before .before .before .before .before .before))) (omega (arith, s .pre, first a .ends, second b .ends, counts-short (c .before .before .before .before .before .before .before .before .before .before .before .before .before .before .before), visits-short (c .before .before .before .before .before .before .before .before .before .before .before .before .before .before .before))) h (first a) (a .put-field .kept .0 ∙ x) (second b)
+      (subst (λ n. Written (tabbed (take n (s .args .numbers .now))) (b .put-field2 .result) (b .put-field2 .last .0) (t .result) (c .before .before .put-tabbed .last .0)) (listed (c .before .before .before .before .before .before .before .before .before .before .before .before .before .before)) (t .ensures .1)))
 
 pub put-answer-spec : {M : Type 1} → statement M
 put-answer-spec =

@@ -1,17 +1,17 @@
 use mathlib.Core.Path.{_≡_, refl, sym, ap, ap₂, _∙_, subst}
 use mathlib.Core.List.{_∷_}
-use Prim.Native.Nat.{_+_, _-_, _≤_, _<_, min}
+use Prim.Native.Nat.{_+_, _-_, _*_, _≤_, _<_, min}
 use native.Mathlib.Omega.{arith}
 use lib.IntN.{pos}
-use lib.ListN.{length, take, getD, length-set}
+use lib.ListN.{length, take, getD, set, length-set}
 use lib.Seq.{length-take-le, getD-take}
 use mir.Syntax.{w64}
 use mir.Val.{toZ, ofZ}
 use mir.ValLaws.{toZ-ofZ}
-use Rattle.lists.specs.Parts.{put}
+use Rattle.lists.specs.Parts.{put, put-nil}
 use Rattle.paper.specs.Lines.{tab, decimal, tabbed}
-use Rattle.texts.specs.Written.{Written}
-use Rattle.texts.specs.Due.{Due, due-start, due-room, due-step, due-end, take-least}
+use Rattle.texts.specs.Written.{Written, written-one, written-join}
+use Rattle.texts.specs.Printed.{fieldsText, no-fields, fields-next, fields-end, field-le, take-least}
 use borrow.Author.Needs.{needs}
 use Rattle.texts.proofs.put_tabbed.Statement.{statement}
 use Rattle.texts.proofs.put_tabbed.Tie as tie
@@ -23,25 +23,18 @@ use Rattle.whole.proofs.cell.Reads as cell-reads
 
 abbrev Inv-loop : tie.InvT-loop
 Inv-loop out₀ at numbers count n k₀ i₀ out k i =
-    (i ≤ n) × (n ≤ length numbers) × (length out ≡ length out₀) × Due (take n numbers) i k out (at + length (tabbed (take n numbers))) (put at (tabbed (take n numbers)) out₀)
+    (i ≤ n) × (n ≤ length numbers) × (length out ≡ length out₀) × (k ≤ at + 21 * i) × Written (fieldsText (take i numbers)) at out₀ k out
 
 abbrev μ-loop : tie.MeasureT-loop
 μ-loop out₀ at numbers count n k₀ i₀ out k i = n - i
 
 -- what a turn reads is the number that is due
-value : (c : tie.After-cell Inv-loop μ-loop) → toZ w64 (ofZ w64 (c .cell .result)) ≡ getD (take (c .before .before .before .least .result) (c .before .before .before .before .before .args .numbers .now)) (c .before .before .loop .i) (pos 0)
-value c =
-    toZ-ofZ w64 (c .cell .result) (c .cell .ensures .1)
-    ∙ c .cell .ensures .0
-    ∙ sym (getD-take (c .before .before .before .least .result) (c .before .before .before .before .before .args .numbers .now) (c .before .before .loop .i) (pos 0) (c .before .loop-test .taken))
+value : (c : tie.After-cell Inv-loop μ-loop) → toZ w64 (ofZ w64 (c .cell .result)) ≡ getD (c .before .before .before .before .before .args .numbers .now) (c .before .before .loop .i) (pos 0)
+value c = toZ-ofZ w64 (c .cell .result) (c .cell .ensures .1) ∙ c .cell .ensures .0
 
--- and there is one
-inside : (c : tie.In-loop Inv-loop μ-loop) → c .before .loop .i < length (take (c .before .before .least .result) (c .before .before .before .before .args .numbers .now))
-inside c = omega (arith, c .loop-test .taken, length-take-le (c .before .before .least .result) (c .before .before .before .before .args .numbers .now) (c .before .loop .inv .1))
-
--- after the loop there is none
-outside : (c : tie.After-loop Inv-loop μ-loop) → length (take (c .before .before .least .result) (c .before .before .before .before .args .numbers .now)) ≤ c .before .loop .i
-outside c = omega (arith, c .loop-test .left, length-take-le (c .before .before .least .result) (c .before .before .before .before .args .numbers .now) (c .before .loop .inv .1))
+-- and it is short
+short : (c : tie.After-cell Inv-loop μ-loop) → length (tab ∷ decimal (getD (c .before .before .before .before .before .args .numbers .now) (c .before .before .loop .i) (pos 0))) ≤ 21
+short c = subst (λ z. length (tab ∷ decimal z) ≤ 21) (c .cell .ensures .0) (field-le (c .cell .result) (c .cell .ensures .1 .sfits))
 
 -- src/lib.rt:109:9
 least-requires : tie.Need-least-requires Inv-loop μ-loop
@@ -50,11 +43,9 @@ least-requires c κs = search needs
 -- src/lib.rt:112:5
 loop-holds : tie.Need-loop-holds Inv-loop μ-loop
 loop-holds c =
-    let s = c .before .before in
-    let a = s .args in
+    let a = c .before .before .args in
     let e = c .least .ensures in
-    let t = ap (λ n. take n (a .numbers .now)) e ∙ take-least (a .count) (a .numbers .now) in
-    (omega arith, omega (arith, e), refl, due-start (take (c .least .result) (a .numbers .now)) (a .at) (a .out .now) (rw t (s .pre)))
+    (omega arith, omega (arith, e), refl, omega arith, record { ends = omega (arith, ap length no-fields); wrote = sym (ap (λ t. put (a .at) t (a .out .now)) no-fields ∙ put-nil (a .at) (a .out .now)) })
 
 -- src/lib.rt:113:13
 cell-requires : tie.Need-cell-requires Inv-loop μ-loop
@@ -64,7 +55,8 @@ cell-requires c κs = search needs
 put-field-requires : tie.Need-put-field-requires Inv-loop μ-loop
 put-field-requires c κs =
     let l = c .before .before .before .loop in
-    subst (λ z. l .k + length (tab ∷ decimal z) ≤ length (l .out)) (sym (value (c .before))) (due-room (l .inv .3) (inside (c .before .before)))
+    let s = c .before .before .before .before .before .before in
+    subst (λ z. l .k + length (tab ∷ decimal z) ≤ length (l .out)) (sym (value (c .before))) (omega (arith, short (c .before), s .pre, l .inv .1, l .inv .2, l .inv .3, c .before .before .loop-test .taken))
 
 -- src/lib.rt:115:9
 add-i : tie.Need-add-i Inv-loop μ-loop
@@ -79,15 +71,23 @@ loop-again : tie.Need-loop-again Inv-loop μ-loop
 loop-again c =
     let t = c .before .before .before .before in
     let l = t .before .before .loop in
-    (omega (arith, t .before .loop-test .taken), l .inv .1, c .before .before .put-field .kept .0 ∙ l .inv .2, due-step (l .inv .3) (inside (t .before)) (subst (λ z. Written (tab ∷ decimal z) (l .k) (l .out) (c .before .before .put-field .result) (c .before .before .put-field .last .0)) (value t) (c .before .before .put-field .ensures)))
+    let s = t .before .before .before .before .before in
+    let w = subst (λ z. Written (tab ∷ decimal z) (l .k) (l .out) (c .before .before .put-field .result) (c .before .before .put-field .last .0)) (value t) (c .before .before .put-field .ensures) in
+    let h = t .before .loop-test .taken in
+    (omega (arith, h),
+      l .inv .1,
+      c .before .before .put-field .kept .0 ∙ l .inv .2,
+      omega (arith, l .inv .3, w .ends, short t),
+      subst (λ x. Written x (s .args .at) (s .args .out .now) (c .before .before .put-field .result) (c .before .before .put-field .last .0)) (sym (fields-next (s .args .numbers .now) (l .i) (omega (arith, h, l .inv .1))))
+      (written-join (omega (arith, l .inv .4 .ends, l .inv .3, s .pre, short t, h, l .inv .1)) (l .inv .4) w))
 
 -- src/lib.rt:117:5
 slice-write-out : tie.Need-slice-write-out Inv-loop μ-loop
-slice-write-out c = due-end (c .before .loop .inv .3) (outside c) .1
+slice-write-out c = omega (arith, c .before .before .before .before .pre, c .before .loop .inv .0, c .before .loop .inv .1, c .before .loop .inv .2, c .before .loop .inv .3)
 
 -- src/lib.rt:118:5
 add-result : tie.Need-add-result Inv-loop μ-loop
-add-result c = omega (arith, due-end (c .before .loop .inv .3) (outside c) .1, c .before .loop .inv .2, c .before .before .before .before .good .0 .0)
+add-result c = omega (arith, c .before .before .before .before .pre, c .before .loop .inv .0, c .before .loop .inv .1, c .before .loop .inv .3, c .before .before .before .before .good .0 .0)
 
 -- src/lib.rt:105:1
 same-length : tie.Need-same-length Inv-loop μ-loop
@@ -96,10 +96,16 @@ same-length c = length-set (c .before .loop .out) (c .before .loop .k) 10 ∙ c 
 -- src/lib.rt:105:1
 returns : tie.Need-returns Inv-loop μ-loop
 returns c =
-    let a = c .before .before .before .before .args in
-    let d = due-end (c .before .loop .inv .3) (outside c) in
-    let e = ap (λ n. take n (a .numbers .now)) (c .before .before .least .ensures) ∙ take-least (a .count) (a .numbers .now) in
-    record { ends = d .0 ∙ ap (λ t. a .at + length (tabbed t)) e; wrote = d .2 ∙ ap (λ t. put (a .at) (tabbed t) (a .out .now)) e }
+    let s = c .before .before .before .before in
+    let a = s .args in
+    let l = c .before .loop in
+    let n = c .before .before .least .result in
+    let i : l .i ≡ n = omega (arith, l .inv .0, c .loop-test .left) in
+    let e : take (l .i) (a .numbers .now) ≡ take (a .count) (a .numbers .now) = ap (λ m. take m (a .numbers .now)) (i ∙ c .before .before .least .ensures) ∙ take-least (a .count) (a .numbers .now) in
+    let k : l .k < length (l .out) = omega (arith, s .pre, l .inv .0, l .inv .1, l .inv .2, l .inv .3) in
+    (omega (arith, k, l .inv .2),
+      subst (λ x. Written x (a .at) (a .out .now) (l .k + 1) (set (l .out) (l .k) 10)) (fields-end (take (l .i) (a .numbers .now)) ∙ ap tabbed e)
+      (written-join (omega (arith, l .inv .4 .ends, k, l .inv .2)) (l .inv .4) (written-one k)))
 
 pub put-tabbed-spec : {M : Type 1} → statement M
 put-tabbed-spec =
