@@ -238,3 +238,26 @@ due-byte n i v carry h l =
 
 pub all-bytes : (n i : ℕ) (v carry : List ℕ) → length v ≤ i → put (n + i) (drop i v) carry ≡ carry
 all-bytes n i v carry h = ap (λ d. put (n + i) d carry) (drop-of-length-le v h) ∙ put-nil (n + i) carry
+
+-- ---- between chunks: what is written is owed no more, and a new chunk is read from its start
+abbrev pub emptied : Reader → Reader
+emptied r = record { state = r .state; line = r .line; carried = r .carried; at = r .at; out = 0; ended = r .ended }
+
+abbrev pub onChunk : Reader → Reader
+onChunk r = record { state = r .state; line = r .line; carried = r .carried; at = 0; out = r .out; ended = r .ended }
+
+abbrev pub over : Reader
+over = record { state = Start; line = 1; carried = 0; at = 0; out = 0; ended = true }
+
+module _ {cells index : List ℤ} {carry : List ℕ} where
+  pub start-sound : Sound started cells index carry
+  start-sound = record { kept = omega arith; clear = clear-nil lineFeed; short = omega arith }
+
+  pub over-sound : Sound over cells index carry
+  over-sound = record { kept = omega arith; clear = clear-nil lineFeed; short = omega arith }
+
+  pub emptied-sound : {r : Reader} → Sound r cells index carry → Sound (emptied r) cells index carry
+  emptied-sound s = record { kept = s .kept; clear = s .clear; short = s .short }
+
+  pub chunk-sound : {r : Reader} → Sound r cells index carry → Sound (onChunk r) cells index carry
+  chunk-sound s = record { kept = s .kept; clear = s .clear; short = s .short }

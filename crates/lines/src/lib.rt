@@ -12,7 +12,7 @@ ghost use Rattle.paper.specs.Lines.{lineOf};
 ghost use Rattle.lines.specs.declared.State.the-variants.{Filling};
 ghost use Rattle.fields.specs.Forms.{shownLine};
 ghost use Rattle.lines.specs.States.{cellsOf, descriptorOf, Opened, Fits, Added, answerOver, Lent, Kept, Asked, Stepped};
-ghost use Rattle.lines.specs.Reading.{started, Judged, Buffers, Sound, Goes, Turned, Finished};
+ghost use Rattle.lines.specs.Reading.{started, emptied, onChunk, over, Judged, Buffers, Sound, Goes, Turned, Finished};
 use fields::Line;
 ghost use Rattle.texts.specs.Written.{Written};
 use paper::Descriptor;
@@ -139,7 +139,7 @@ fn answer(t: Table, w: Window, index: &[i32], numbers: &mut [i32], out: &mut [u8
 {
     let n = t.size;
     let words = table::words(n);
-    let reply = standin::query(&index[..words], w, &mut numbers[..n]);
+    let reply = marks::query(&index[..words], w, &mut numbers[..n]);
     texts::put_answer(out, at, reply, &numbers[..n])
 }
 
@@ -154,8 +154,8 @@ fn asked(line: Line, t: Table, index: &[i32], numbers: &mut [i32], out: &mut [u8
     if meeting::bad_window(w) {
         return Outcome::Fault(8);
     }
-    let end = answer(t, w, index, numbers, out, at);
-    Outcome::Next(State::Asking(t), end)
+    let place = answer(t, w, index, numbers, out, at);
+    Outcome::Next(State::Asking(t), place)
 }
 
 // A line after the T line, before the first W line. That one has the index built: no S line can follow it.
@@ -172,7 +172,7 @@ fn filled(line: Line, t: Table, cells: &mut [i32], index: &mut [i32], numbers: &
     if meeting::bad_window(w) {
         return Outcome::Fault(8);
     }
-    standin::build(cells, descriptor(t), index);
+    marks::build(cells, descriptor(t), index);
     let end = answer(t, w, index, numbers, out, at);
     Outcome::Next(State::Asking(t), end)
 }
@@ -351,4 +351,48 @@ pub fn finish(r: Reader, carry: &mut [u8], cells: &mut [i32], index: &mut [i32],
         return r;
     }
     judge(&carry[..n], r, 0, cells, index, numbers, out)
+}
+
+// The reader once what it printed is written out.
+pub fn written(r: Reader) -> Reader
+    ensures { λ x. ⌜ x ≡ emptied r ⌝ }
+{
+    let state = r.state;
+    Reader {
+        state: state,
+        line: r.line,
+        carried: r.carried,
+        at: r.at,
+        out: 0,
+        ended: r.ended,
+    }
+}
+
+// The reader at the start of the next chunk.
+pub fn next_chunk(r: Reader) -> Reader
+    ensures { λ x. ⌜ x ≡ onChunk r ⌝ }
+{
+    let state = r.state;
+    Reader {
+        state: state,
+        line: r.line,
+        carried: r.carried,
+        at: 0,
+        out: r.out,
+        ended: r.ended,
+    }
+}
+
+// A reader that reads no more.
+pub fn stopped() -> Reader
+    ensures { λ x. ⌜ x ≡ over ⌝ }
+{
+    Reader {
+        state: State::Start,
+        line: 1,
+        carried: 0,
+        at: 0,
+        out: 0,
+        ended: true,
+    }
 }
