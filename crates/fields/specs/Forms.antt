@@ -1,10 +1,10 @@
 -- The numbers of a line from a place on, and the form that a letter and numbers make: what the functions on fields say, put together to `lineOf`.
-use mathlib.Core.Path.{_≡_, refl, sym, ap, ap₂, _∙_, subst}
+use mathlib.Core.Path.{_≡_, refl, sym, ap, _∙_, subst}
 use mathlib.Core.Logic.{⊎-elim}
-use mathlib.Core.Bool.{Bool, true, false, cond}
+use mathlib.Core.Bool.{cond}
 use mathlib.Core.List.{List, [], _∷_, _++_, append-nil}
 use mathlib.Core.Option.{Option, none, some}
-use Prim.Native.Nat.{ℕ, zero, suc, _+_, _-_, _≤_, _<_}
+use Prim.Native.Nat.{ℕ, _+_, _-_, _≤_, _<_}
 use native.Mathlib.Nat.{eq-or-lt-of-le, sub-zero}
 use native.Mathlib.Omega.{arith}
 use lib.Dec.{leb}
@@ -12,7 +12,7 @@ use borrow.Author.Tests.{le-leb, lt-leb, ne-eqb}
 use lib.IntN.{ℤ}
 use lib.ListN.{length, take, drop, getD, drop-of-length-le}
 use lib.Seq.{take-suc, length-take-le}
-use Rattle.paper.specs.Lines.{letter-T, letter-S, letter-W, Line, table, segment, window, other, tab, parts, fieldsOf, numberIn, also, numbersIn, two, four, asTable, asSegment, asWindow, form, formOf, byFields, lineOf}
+use Rattle.paper.specs.Lines.{letter-T, letter-S, letter-W, Line, table, segment, window, other, tab, parts, fieldsOf, numberIn, also, numbersIn, two, four, asTable, asSegment, asWindow, formOf, byFields, lineOf}
 use Rattle.fields.specs.Marks.{Ends, Parted, parted, some-part, ends-parts, part-rest, clear-last}
 use Rattle.fields.specs.declared.Field.{Field}
 use Rattle.fields.specs.declared.Field.the-variants as field

@@ -1,15 +1,15 @@
 -- The parts of a text between marks (tabs in a line, line feeds in the input): where one ends, and what is left after it.
 -- Use: `end_of` gives `Ends`; `ends-parts` makes of it the first part and the parts after it, with any text behind.
-use mathlib.Core.Path.{_≡_, refl, sym, ap, ap₂, _∙_}
+use mathlib.Core.Path.{_≡_, refl, sym, ap, _∙_}
 use mathlib.Core.Bool.{Bool, true, false, cond}
 use mathlib.Core.List.{List, [], _∷_, _++_, append-assoc, append-nil}
-use Prim.Native.Nat.{ℕ, zero, suc, _+_, _-_, _≤_, _<_}
+use Prim.Native.Nat.{ℕ, suc, _+_, _-_, _≤_, _<_}
 use native.Mathlib.Omega.{arith}
 use native.Mathlib.Numerals.{add-one}
 use lib.Dec.{eqb}
 use borrow.Author.Tests.{eq-eqb, ne-eqb}
-use lib.ListN.{length, take, drop, getD, length-drop, take-append-drop, drop-of-length-le}
-use lib.Seq.{drop-cons, take-suc, getD-drop, drop-drop, take-length}
+use lib.ListN.{length, take, drop, getD, length-drop, take-append-drop}
+use lib.Seq.{drop-cons, take-suc, getD-drop, drop-drop}
 use Rattle.paper.specs.Lines.{onto, parts}
 
 -- bytes before the first of some parts

@@ -1,8 +1,6 @@
 -- The lines that are left where a `let .. else` has asked for a T line, or for a W line.
-use mathlib.Core.Path.{_≡_}
 use mathlib.Core.List.{[], _∷_}
 use mathlib.Core.Logic.{⊎-elim}
-use Prim.Native.Nat.{ℕ}
 use native.Mathlib.Omega.{arith}
 use lib.IntN.{ℤ}
 use types.Run.{OneOf}

@@ -1,30 +1,29 @@
 -- A W line: the builder refuses nothing that the T and S lines have passed, its words are those of the index, and an A line does not depend on what the
 -- number cells held before.
-use mathlib.Core.Path.{_≡_, refl, sym, ap, ap₂, _∙_, subst}
+use mathlib.Core.Path.{_≡_, refl, sym, ap, ap₂, _∙_}
 use mathlib.Core.Bool.{Bool, true, false, not, cond, _&&_, _||_}
-use mathlib.Core.List.{List, [], _∷_, _++_, map}
-use Prim.Native.Nat.{ℕ, zero, suc, _+_, _-_, _*_, _^_, _≤_, _<_}
+use mathlib.Core.List.{List, _∷_}
+use Prim.Native.Nat.{ℕ, _+_, _-_, _*_, _≤_, _<_}
 use native.Mathlib.Nat.{mul-le-mul}
 use native.Mathlib.Omega.{arith}
-use lib.Dec.{leb, ltb}
+use lib.Dec.{ltb}
 use borrow.Author.Tests.{le-leb, lt-leb, le-ltb}
 use lib.IntN.{ℤ, pos}
 use lib.ListN.{length, take, drop, replicate, length-map, length-replicate}
 use lib.Seq.{take-append-seam}
-use Rattle.lists.specs.Plain.{filter, positions, any, toNat}
 use Rattle.lists.specs.Digits.{digits-least}
 use Rattle.lists.specs.Choosing.{any-none, filter-none}
-use Rattle.paper.specs.Descriptor.{firstNumber, cellOf, sizeOf, segmentOf, segmentsOf, outside}
-use Rattle.paper.specs.Answers.{Answer, answerAt, positionsOf, badKind, badLower, badExtent, badCells, badCoordinate, badSlant, badBuffer, badWindow, farOff, slanted, judged, refused, done}
+use Rattle.paper.specs.Descriptor.{cellOf, segmentOf, outside}
+use Rattle.paper.specs.Answers.{answerAt, positionsOf, badExtent, badCells, badBuffer, badWindow, farOff, slanted, refused, done}
 use Rattle.paper.specs.Words.{L, D, W, indexWords}
 use Rattle.paper.specs.Walk.{Walked, walked, stopped, word, sizeIn, walkOf}
-use Rattle.paper.specs.Orders.{builderOrder, queryOrder, badIndex, badWalk}
+use Rattle.paper.specs.Orders.{badIndex, badWalk}
 use Rattle.paper.specs.Results.{Result, over, afterRefusal, numbersOf, built, listing, queried}
 use Rattle.paper.specs.Demands.{Straight}
 use Rattle.paper.specs.Lines.{printed, tabbed, letter-A}
 use Rattle.paper.specs.declared.Segment.{Segment}
 use Rattle.paper.specs.declared.Window.{Window}
-use Rattle.table.specs.Cells.{badStride, rowOutside}
+use Rattle.table.specs.Cells.{rowOutside}
 use Rattle.table.specs.Rows.{cells-by}
 use Rattle.table.specs.Segments.{length-segments, chosen-are}
 use Rattle.promise.specs.Index.{index-length}

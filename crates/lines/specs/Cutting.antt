@@ -1,11 +1,10 @@
 -- How the input falls into lines, and what is still owed for the lines that are left: a line cut off, the last line, a line that is too long.
-use mathlib.Core.Path.{_≡_, refl, sym, ap, ap₂, _∙_, subst}
-use mathlib.Core.Bool.{Bool, true, false, cond}
-use mathlib.Core.List.{List, [], _∷_, _++_, append-assoc, append-nil}
-use Prim.Native.Nat.{ℕ, zero, suc, _+_, _-_, _≤_, _<_}
+use mathlib.Core.Path.{_≡_, refl, sym, ap, _∙_}
+use mathlib.Core.List.{List, [], _∷_, _++_, append-assoc}
+use Prim.Native.Nat.{ℕ, _+_, _<_}
 use native.Mathlib.Omega.{arith}
-use lib.IntN.{ℤ, pos}
-use lib.ListN.{length, take, drop, length-append}
+use lib.IntN.{pos}
+use lib.ListN.{length, length-append}
 use Rattle.paper.specs.Lines.{lineFeed, parts, withoutEmptyLast, linesOf, lineOf, other, State, start, filling, asking, Read, fault, next, read, tabbed, letter-R, after, fromLine, program}
 use Rattle.fields.specs.Marks.{before, Clear, Parted, parted, some-part, clear-marked, clear-last}
 use Rattle.fields.specs.Forms.{too-long}

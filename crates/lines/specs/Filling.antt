@@ -1,8 +1,8 @@
 -- An S line: its faults in their order, and a segment written after those of the table.
-use mathlib.Core.Path.{_≡_, refl, sym, ap, ap₂, _∙_, subst}
-use mathlib.Core.Bool.{Bool, true, false, not, cond, _&&_}
+use mathlib.Core.Path.{_≡_, refl, sym, ap, ap₂, _∙_}
+use mathlib.Core.Bool.{Bool, true, false, cond, _&&_}
 use mathlib.Core.List.{List, [], _∷_, _++_, map, map-append}
-use Prim.Native.Nat.{ℕ, zero, suc, _+_, _-_, _*_, _≤_, _<_}
+use Prim.Native.Nat.{ℕ, zero, suc, _+_, _*_, _≤_, _<_}
 use native.Mathlib.Omega.{arith}
 use native.Mathlib.Numerals.{add-one}
 use native.Mathlib.Decide.{decLt}
@@ -20,10 +20,10 @@ use Rattle.lists.specs.Parts.{put, put-step, put-nil, getD-put-left}
 use Rattle.table.specs.Segments.{length-segments}
 use Rattle.paper.specs.Limits.{coordinateFits}
 use Rattle.paper.specs.Descriptor.{cellOf, segmentOf, segmentsOf}
-use Rattle.paper.specs.Answers.{Answer, answer, answerAt, positionsOf, badCoordinate, badSlant, farOff, slanted, judged}
+use Rattle.paper.specs.Answers.{answer, answerAt, positionsOf, badCoordinate, badSlant, farOff, slanted, judged}
 use Rattle.paper.specs.Lines.{Read, fault, next, filling, faultOf, mostInProgram, readSegment}
 use Rattle.paper.specs.declared.Segment.{Segment}
-use Rattle.lines.specs.States.{cellsOf, descriptorOf, firstOf, segmentsIn, Fits, outcome, Added}
+use Rattle.lines.specs.States.{cellsOf, descriptorOf, firstOf, segmentsIn, Fits, Added}
 use Rattle.lines.specs.declared.Table.{Table}
 use Rattle.lines.specs.declared.State.the-variants.{Filling}
 use Rattle.lines.specs.declared.Outcome.the-variants.{Fault, Next}

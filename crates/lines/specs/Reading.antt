@@ -4,22 +4,21 @@ use mathlib.Core.Bool.{Bool, true, false, cond}
 use mathlib.Core.List.{List, [], _∷_, _++_, append-assoc, append-nil}
 use Prim.Native.Nat.{ℕ, suc, _+_, _-_, _≤_, _<_}
 use native.Mathlib.Omega.{arith}
-use lib.IntN.{ℤ, pos}
+use lib.IntN.{ℤ}
 use native.Mathlib.Numerals.{add-one}
 use lib.ListN.{length, take, drop, getD, set, length-append, drop-of-length-le}
 use lib.Seq.{drop-cons, take-at, length-take-le}
 use Rattle.lists.specs.Parts.{put, put-nil, put-step}
-use Rattle.paper.specs.Lines.{Line, Read, fault, next, read, after, lineFeed, lineOf, program}
+use Rattle.paper.specs.Lines.{Line, next, read, after, lineFeed, lineOf, program}
 use Rattle.paper.specs.Lines as lines
 use Rattle.fields.specs.Marks.{Clear, Ends, clear-nil, clear-join, part-rest}
 use Rattle.texts.specs.Written.{Written, written-join}
-use Rattle.lines.specs.States.{stateOf, outcome, Kept, Lent, Stepped}
-use Rattle.lines.specs.Cutting.{owed, faultText, faulty, onward, line-cut, line-last, line-long, none-owed, program-is}
+use Rattle.lines.specs.States.{stateOf, Kept, Stepped}
+use Rattle.lines.specs.Cutting.{owed, faultText, faulty, onward, line-cut, line-last, line-long, none-owed, program-is, Fed}
 use Rattle.lines.specs.declared.Reader.{Reader}
 use Rattle.lists.specs.Tests.{clash}
 use Rattle.lines.specs.declared.State.{State}
 use Rattle.lines.specs.declared.State.the-variants.{Start}
-use Rattle.lines.specs.declared.Outcome.{Outcome}
 use Rattle.lines.specs.declared.Outcome.the-variants.{Fault, Next}
 
 abbrev pub started : Reader
@@ -261,3 +260,28 @@ module _ {cells index : List ℤ} {carry : List ℕ} where
 
   pub chunk-sound : {r : Reader} → Sound r cells index carry → Sound (onChunk r) cells index carry
   chunk-sound s = record { kept = s .kept; clear = s .clear; short = s .short }
+
+-- ---- chunk after chunk: what is printed in all is the program of the whole input
+-- a chunk that was read from its start to its end, or up to a fault: turns within a chunk come together by `turned-more`
+pub chunk-fed : {r x : Reader} {chunk : List ℕ} {cells cellsAfter indexAfter : List ℤ} {carry carryAfter out outAfter : List ℕ} (t : Turned r chunk cells carry out x cellsAfter indexAfter carryAfter outAfter) → r .at ≡ 0 → length chunk ≤ x .at → Fed (dueOf r cells carry) chunk (t .text) (dueOf x cellsAfter carryAfter)
+chunk-fed {r} {x} {chunk} {cells} {cellsAfter} {indexAfter} {carry} {carryAfter} t z e = record {
+  fed = λ rest.
+    ap (λ k. dueOf r cells carry (drop k chunk ++ rest)) (sym z)
+    ∙ t .fed rest
+    ∙ ap (λ l. t .text ++ dueOf x cellsAfter carryAfter (l ++ rest)) (drop-of-length-le chunk e);
+}
+
+pub end-is-program : (cells : List ℤ) (carry : List ℕ) {text printed last : List ℕ} {left : List ℕ → List ℕ} → Fed (dueOf started cells carry) text printed left → left [] ≡ last → program text ≡ printed ++ last
+end-is-program cells carry {text} {printed} f e =
+    sym (start-owes text carry cells)
+    ∙ ap (dueOf started cells carry) (sym (append-nil text))
+    ∙ f .fed []
+    ∙ ap (λ l. printed ++ l) e
+
+-- after a fault the rest of the input changes nothing
+pub fault-is-program : {x : Reader} {chunk : List ℕ} {cells cellsAfter indexAfter : List ℤ} {carry carryAfter out outAfter : List ℕ} (t : Turned started chunk cells carry out x cellsAfter indexAfter carryAfter outAfter) → x .ended ≡ true → (rest : List ℕ) → program (chunk ++ rest) ≡ t .text
+fault-is-program {x} {chunk} {cells} {cellsAfter} {carry = carry} {carryAfter = carryAfter} t e rest =
+    sym (start-owes (chunk ++ rest) carry cells)
+    ∙ t .fed rest
+    ∙ ap (λ b. t .text ++ cond b [] (owed (stateOf (x .state) cellsAfter) (x .line) (take (x .carried) carryAfter ++ (drop (x .at) chunk ++ rest)))) e
+    ∙ append-nil (t .text)

@@ -1,17 +1,16 @@
 -- The code's state as `paper`'s, and what T and S lines do to it.
-use mathlib.Core.Path.{_≡_, refl, sym, ap, ap₂, _∙_, subst}
-use mathlib.Core.Bool.{Bool, true, false, cond}
-use mathlib.Core.List.{List, [], _∷_, _++_, map}
-use Prim.Native.Nat.{ℕ, zero, suc, _+_, _-_, _*_, _≤_, _<_}
+use mathlib.Core.Path.{_≡_, refl}
+use mathlib.Core.Bool.{true, false}
+use mathlib.Core.List.{List, [], _∷_}
+use Prim.Native.Nat.{ℕ, _+_, _≤_, _<_}
 use native.Mathlib.Omega.{arith}
-use lib.IntN.{ℤ, pos, _+ℤ_, _*ℤ_}
-use lib.ListN.{length, take, drop, getD, replicate}
-use Rattle.lists.specs.Plain.{positions, toNat}
-use Rattle.lists.specs.Parts.{put}
-use Rattle.paper.specs.Descriptor.{firstNumber, cellOf, sizeOf, segmentOf, segmentsOf}
-use Rattle.paper.specs.Answers.{badKind, badLower, badCoordinate, badSlant, farOff, slanted}
+use lib.IntN.{ℤ, pos}
+use lib.ListN.{length, take, replicate}
+use Rattle.lists.specs.Plain.{positions}
+use Rattle.paper.specs.Descriptor.{firstNumber, segmentOf, segmentsOf}
+use Rattle.paper.specs.Answers.{badKind, badLower, farOff, slanted}
 use Rattle.paper.specs.Words.{W, indexWords}
-use Rattle.paper.specs.Lines.{Line, table, segment, window, other, Read, fault, next, start, filling, asking, read, readTable, readSegment}
+use Rattle.paper.specs.Lines.{Line, table, segment, window, other, Read, fault, next, start, filling, asking, read, readSegment}
 use Rattle.paper.specs.Results.{queried}
 use Rattle.paper.specs.Lines.{printed}
 use Rattle.paper.specs.Lines as lines

@@ -1,21 +1,21 @@
 -- A line judged, from what each part of the code says of it: the cases of `paper`'s `read`.
 use mathlib.Core.Path.{_≡_, refl, sym, ap, ap₂, _∙_, subst}
-use mathlib.Core.Bool.{Bool, true, false, cond}
-use mathlib.Core.List.{List, [], _∷_}
-use Prim.Native.Nat.{ℕ, _+_, _≤_}
+use mathlib.Core.Bool.{true, false}
+use mathlib.Core.List.{List, []}
+use Prim.Native.Nat.{ℕ, _≤_}
 use native.Mathlib.Omega.{arith}
 use lib.IntN.{ℤ, pos}
 use lib.ListN.{length, take, replicate}
-use Rattle.lists.specs.Parts.{put, put-nil}
+use Rattle.lists.specs.Parts.{put-nil}
 use Rattle.paper.specs.Answers.{badWindow}
-use Rattle.paper.specs.Words.{W, indexWords}
+use Rattle.paper.specs.Words.{W}
 use Rattle.paper.specs.Results.{Result, built, queried}
-use Rattle.paper.specs.Lines.{Line, table, segment, window, other, Read, fault, next, start, asking, filling, read, answered, printed}
+use Rattle.paper.specs.Lines.{Line, table, segment, window, other, fault, next, asking, read, answered, printed}
 use Rattle.paper.specs.declared.Segment.{Segment}
 use Rattle.paper.specs.declared.Window.{Window}
 use Rattle.paper.specs.declared.Reply.{Reply}
 use Rattle.texts.specs.Written.{Written}
-use Rattle.lines.specs.States.{descriptorOf, firstOf, segmentsIn, stateOf, Fits, outcome, Opened, Added, answerOver, Ready, Kept, Asked, Stepped}
+use Rattle.lines.specs.States.{descriptorOf, firstOf, segmentsIn, stateOf, Fits, Opened, Added, answerOver, Ready, Kept, Asked, Stepped}
 use Rattle.lines.specs.Asking.{size-is, built-done, words-ready}
 use Rattle.lines.specs.declared.Table.{Table}
 use Rattle.lines.specs.declared.State.the-variants.{Start, Filling, Asking}

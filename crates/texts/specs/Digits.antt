@@ -1,8 +1,7 @@
 -- The decimal digits of a number without its sign: `decimalTo` with bound enough, digit by digit from the back, and how many there are.
-use mathlib.Core.Path.{_≡_, refl, sym, ap, ap₂, _∙_}
-use mathlib.Core.Bool.{Bool, true, false, cond}
+use mathlib.Core.Path.{_≡_, refl, ap, _∙_}
 use mathlib.Core.List.{List, [], _∷_, _++_}
-use Prim.Native.Nat.{ℕ, zero, suc, _+_, _-_, _*_, _/_, _%_, _≤_, _<_}
+use Prim.Native.Nat.{ℕ, zero, suc, _+_, _*_, _/_, _%_, _≤_, _<_}
 use native.Mathlib.Omega.{arith}
 use lib.Dec.{ltb}
 use borrow.Author.Tests.{ltb-true, ltb-false, lt-ltb, le-ltb}
@@ -10,7 +9,7 @@ use lib.IntN.{ℤ, pos, negsuc}
 use lib.Signed.{mag}
 use lib.ListN.{length, length-append}
 use Rattle.lists.specs.Tests.{by-test}
-use Rattle.paper.specs.Lines.{digit0, minus, decimalTo, decimal}
+use Rattle.paper.specs.Lines.{digit0, decimalTo, decimal}
 
 abbrev pub digitsOf : ℕ → List ℕ
 digitsOf n = decimalTo (suc n) n

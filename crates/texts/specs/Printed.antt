@@ -1,17 +1,16 @@
 -- A line of numbers, number by number, and the whole of an A line and of an R line, part by part.
-use mathlib.Core.Path.{_≡_, refl, sym, ap, ap₂, _∙_}
+use mathlib.Core.Path.{_≡_, refl, sym, ap, _∙_}
 use mathlib.Core.List.{List, [], _∷_, _++_, append-assoc, append-nil}
-use Prim.Native.Nat.{ℕ, zero, suc, _+_, _-_, _*_, _≤_, _<_, min}
+use Prim.Native.Nat.{ℕ, _+_, _≤_, _<_, min}
 use native.Mathlib.Omega.{arith}
 use native.Mathlib.Numerals.{add-one}
 use lib.Dec.{leb}
 use borrow.Author.Tests.{leb-true, leb-false}
-use lib.IntN.{ℤ, pos, negsuc}
+use lib.IntN.{ℤ, pos}
 use lib.Signed.{mag}
-use lib.ListN.{length, take, drop, getD, set, length-append, length-set, length-take, drop-of-length-le}
+use lib.ListN.{length, take, getD, set, length-append, length-set}
 use lib.Seq.{take-suc, take-all}
 use Rattle.lists.specs.Tests.{by-test}
-use Rattle.lists.specs.Parts.{put, put-one, put-join, length-put}
 use Rattle.lists.specs.Plain.{toNat}
 use Rattle.paper.specs.Results.{Result}
 use Rattle.paper.specs.Lines.{tab, lineFeed, letter-A, letter-R, decimal, tabbed, printed}

@@ -1,10 +1,10 @@
 -- Text written at a place of a buffer, and the place after it; two texts one after the other are their join.
 use mathlib.Core.Path.{_≡_, refl, sym, ap, ap₂, _∙_}
 use mathlib.Core.List.{List, [], _∷_, _++_}
-use Prim.Native.Nat.{ℕ, zero, suc, _+_, _-_, _≤_, _<_}
+use Prim.Native.Nat.{ℕ, _+_, _≤_, _<_}
 use native.Mathlib.Omega.{arith}
 use native.Mathlib.Numerals.{add-one}
-use lib.ListN.{length, take, drop, getD, set, length-append}
+use lib.ListN.{length, set, length-append}
 use Rattle.lists.specs.Parts.{put, put-one, put-join, put-swap, put-step, length-put}
 
 pub record Written (text : List ℕ) (at : ℕ) (out : List ℕ) (end : ℕ) (after : List ℕ) : Type 0 where

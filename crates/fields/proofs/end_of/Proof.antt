@@ -1,3 +1,4 @@
+-- `fields::end_of` meets its contract. Assumes nothing.
 use Prim.Native.Nat.{_≤_, _-_}
 use native.Mathlib.Omega.{arith}
 use borrow.Author.Needs.{needs}
@@ -5,8 +6,6 @@ use lib.ListN.{length, take, drop}
 use Rattle.fields.specs.Marks.{Clear, ends-start, ends-more}
 use Rattle.fields.proofs.end_of.Statement.{statement}
 use Rattle.fields.proofs.end_of.Tie as tie
-use Rattle.fields.proofs.end_of.Reads as reads
-use Rattle.fields.proofs.end_of.Lts as lts
 
 abbrev Inv-loop : tie.InvT-loop
 Inv-loop text a mark i₀ i = (a ≤ i) × (i ≤ length text) × Clear mark (take (i - a) (drop a text))
@@ -14,30 +13,24 @@ Inv-loop text a mark i₀ i = (a ≤ i) × (i ≤ length text) × Clear mark (ta
 abbrev μ-loop : tie.MeasureT-loop
 μ-loop text a mark i₀ i = length text - i
 
--- src/lib.rt:135:5
 loop-holds : tie.Need-loop-holds Inv-loop μ-loop
 loop-holds c =
     (omega arith, c .pre, ends-start (c .args .mark) (c .args .text .now) (c .args .a))
 
--- src/lib.rt:136:12
 shared-slice-read-if1 : tie.Need-shared-slice-read-if1 Inv-loop μ-loop
 shared-slice-read-if1 c = search needs
 
--- src/lib.rt:137:13
 returns : tie.Need-returns Inv-loop μ-loop
 returns c =
     let l = c .before .before .before .loop in
     record { starts = l .inv .0; within = l .inv .1; clear = l .inv .2; stops = λ h. c .if1 .taken }
 
--- src/lib.rt:139:9
 add-i : tie.Need-add-i Inv-loop μ-loop
 add-i c = search needs
 
--- src/lib.rt:135:5
 loop-less : tie.Need-loop-less Inv-loop μ-loop
 loop-less c = search needs
 
--- src/lib.rt:135:5
 loop-again : tie.Need-loop-again Inv-loop μ-loop
 loop-again c =
     let s = c .before .before .before .before .args in
@@ -45,7 +38,6 @@ loop-again c =
     let h = c .before .before .loop-test .taken in
     (omega (arith, l .inv .0), omega arith, ends-more (s .mark) (s .text .now) (l .inv .0) h (c .if1 .left) (l .inv .2))
 
--- src/lib.rt:130:1
 returns-2 : tie.Need-returns-2 Inv-loop μ-loop
 returns-2 c =
     let l = c .before .loop in

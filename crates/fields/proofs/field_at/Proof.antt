@@ -1,4 +1,5 @@
-use mathlib.Core.Path.{_≡_, sym, ap, _∙_}
+-- `fields::field_at` meets its contract. Assumes nothing.
+use mathlib.Core.Path.{sym, ap, _∙_}
 use mir.Syntax.{w64}
 use Rattle.whole.specs.Whole.{kept}
 use Rattle.fields.specs.Numbers.{shown}
@@ -7,54 +8,39 @@ use Rattle.fields.specs.Forms.{no-field, no-number, a-number}
 use borrow.Author.Needs.{needs}
 use Rattle.fields.proofs.field_at.Statement.{statement}
 use Rattle.fields.proofs.field_at.Tie as tie
-use Rattle.fields.proofs.field_at.Reads as reads
-use Rattle.fields.proofs.field_at.Lts as lts
-use Rattle.fields.proofs.end_of.Reads as end-of-reads
-use Rattle.fields.proofs.number_in.Reads as number-in-reads
 
--- src/lib.rt:157:9
 returns : tie.Need-returns
 returns c = no-field (c .before .before .args .f .now) (c .if1 .taken)
 
--- src/lib.rt:159:9
 end-of-requires : tie.Need-end-of-requires
 end-of-requires c κs = search needs
 
--- src/lib.rt:160:35
 sub-number-in : tie.Need-sub-number-in
 sub-number-in c = search needs
 
--- src/lib.rt:160:35
 part-number-in-start : tie.Need-part-number-in-start
 part-number-in-start c = search needs
 
--- src/lib.rt:160:35
 part-number-in-end : tie.Need-part-number-in-end
 part-number-in-end c = search needs
 
--- src/lib.rt:160:25
 number-in-requires : tie.Need-number-in-requires
 number-in-requires c κs = search needs
 
--- src/lib.rt:160:20
 enum-known-z : tie.Need-enum-known-z
 enum-known-z c = search needs
 
--- src/lib.rt:161:9
 enum-told : tie.Need-enum-told
 enum-told c = search needs
 
--- src/lib.rt:161:9
 returns-2 : tie.Need-returns-2
 returns-2 c =
     let s = c .before .before .before .before in
     no-number (s .before .before .before .args .f .now) (s .before .if1 .left) (s .end-of .ensures) (ap shown (sym (c .enum-told .given .1)) ∙ c .before .before .number-in .ensures)
 
--- src/lib.rt:163:18
 add-t5 : tie.Need-add-t5
 add-t5 c = search needs
 
--- src/lib.rt:153:1
 returns-3 : tie.Need-returns-3
 returns-3 c =
     let s = c .before .before .before .before .before in

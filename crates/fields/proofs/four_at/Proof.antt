@@ -1,47 +1,35 @@
-use mathlib.Core.Path.{_≡_, refl, sym, ap, ap₂, _∙_, subst}
+-- `fields::four_at` meets its contract. Assumes nothing.
+use mathlib.Core.Path.{refl, _∙_}
 use mir.Syntax.{w64}
 use Rattle.whole.specs.Whole.{kept}
-use Rattle.paper.specs.Lines.{also}
-use mathlib.Core.Option.{some}
 use Rattle.fields.specs.Forms.{numbersFrom, pair-told, pair-missed, few-four, few-two, two-more, two-done, four-after}
 use borrow.Author.Needs.{needs}
 use Rattle.fields.proofs.four_at.Statement.{statement}
 use Rattle.fields.proofs.four_at.Tie as tie
-use Rattle.fields.proofs.four_at.Reads as reads
-use Rattle.fields.proofs.four_at.Lts as lts
-use Rattle.fields.proofs.pair_at.Reads as pair-at-reads
 
--- src/lib.rt:193:30
 pair-at-requires : tie.Need-pair-at-requires
 pair-at-requires c κs = search needs
 
--- src/lib.rt:193:19
 enum-known-x : tie.Need-enum-known-x
 enum-known-x c = search needs
 
--- src/lib.rt:194:9
 enum-told : tie.Need-enum-told
 enum-told c = search needs
 
--- src/lib.rt:194:9
 returns : tie.Need-returns
 returns c = λ g.
     let s = c .before .before .before .before .args in
     few-four g (numbersFrom (s .f .now) (s .a)) (pair-missed (s .f .now) (s .a) (c .enum-told .given .1) (c .before .before .pair-at .ensures))
 
--- src/lib.rt:196:30
 pair-at-requires-2 : tie.Need-pair-at-requires-2
 pair-at-requires-2 c κs = search needs
 
--- src/lib.rt:196:19
 enum-known-z : tie.Need-enum-known-z
 enum-known-z c = search needs
 
--- src/lib.rt:197:9
 enum-told-2 : tie.Need-enum-told-2
 enum-told-2 c = search needs
 
--- src/lib.rt:197:9
 returns-2 : tie.Need-returns-2
 returns-2 c = λ g.
     let s = c .before .before .before .before .before .before .before .before .args in
@@ -50,7 +38,6 @@ returns-2 c = λ g.
     few-two (g (x .0 .0) (x .0 .1 .0)) (numbersFrom (s .f .now) (x .0 .1 .1 .0)) (pair-missed (s .f .now) (x .0 .1 .1 .0) (c .enum-told2 .given .1) (c .before .before .pair-at2 .ensures))
     ∙ four-after (s .f .now) (pair-told (s .f .now) (s .a) (x .1) refl refl (t .before .before .before .pair-at .ensures)) g
 
--- src/lib.rt:200:9
 returns-3 : tie.Need-returns-3
 returns-3 c = λ g.
     let s = c .before .before .before .before .before .before .before .before .before .before .args in
@@ -60,7 +47,6 @@ returns-3 c = λ g.
     two-more (s .f .now) (pair-told (s .f .now) (x .0 .1 .1 .0) (z .1) refl refl (c .before .before .before .before .pair-at2 .ensures)) (g (x .0 .0) (x .0 .1 .0)) (c .if1 .taken)
     ∙ four-after (s .f .now) (pair-told (s .f .now) (s .a) (x .1) refl refl (t .before .before .before .pair-at .ensures)) g
 
--- src/lib.rt:190:1
 returns-4 : tie.Need-returns-4
 returns-4 c = λ g.
     let s = c .before .before .before .before .before .before .before .before .before .before .args in

@@ -1,20 +1,12 @@
-use mathlib.Core.Path.{_≡_, refl, sym, ap, ap₂, _∙_, subst}
+-- `fields::line_of` meets its contract. Assumes nothing.
+use mathlib.Core.Path.{_≡_, refl, sym, ap, _∙_}
 use Prim.Native.Nat.{ℕ}
-use native.Mathlib.Omega.{arith}
 use Rattle.paper.specs.Lines.{formOf, lineOf}
 use Rattle.fields.specs.Forms.{numbersFrom, too-long, no-letter-field, letter-field, no-letter}
 use borrow.Author.Needs.{needs}
 use Rattle.fields.proofs.line_of.Statement.{statement}
 use Rattle.fields.proofs.line_of.Tie as tie
-use Rattle.fields.proofs.line_of.Reads as reads
-use Rattle.fields.proofs.line_of.Lts as lts
-use Rattle.fields.proofs.end_of.Reads as end-of-reads
-use Rattle.fields.proofs.segment_line.Reads as segment-line-reads
-use Rattle.fields.proofs.table_line.Reads as table-line-reads
-use Rattle.fields.proofs.wide.Reads as wide-reads
-use Rattle.fields.proofs.window_line.Reads as window-line-reads
 
--- src/lib.rt:251:9
 -- after the letter is read, the line is by it
 read-letter : (c : tie.After-wide) {b : ℕ} → c .wide .result ≡ b → lineOf (c .before .before .before .before .before .before .args .f .now) ≡ formOf b (numbersFrom (c .before .before .before .before .before .before .args .f .now) 2)
 read-letter c e =
@@ -26,47 +18,36 @@ read-letter c e =
 returns : tie.Need-returns
 returns c = too-long (c .before .before .args .f .now) (c .if1 .taken)
 
--- src/lib.rt:253:9
 end-of-requires : tie.Need-end-of-requires
 end-of-requires c κs = search needs
 
--- src/lib.rt:255:9
 returns-2 : tie.Need-returns-2
 returns-2 c = no-letter-field (c .before .before .before .before .args .f .now) (c .before .before .if1 .left) (c .before .end-of .ensures) (c .if2 .taken)
 
--- src/lib.rt:257:23
 shared-slice-read-wide : tie.Need-shared-slice-read-wide
 shared-slice-read-wide c = search needs
 
--- src/lib.rt:257:9
 wide-requires : tie.Need-wide-requires
 wide-requires c κs = search needs
 
--- src/lib.rt:259:9
 table-line-requires : tie.Need-table-line-requires
 table-line-requires c κs = search needs
 
--- src/lib.rt:259:9
 returns-3 : tie.Need-returns-3
 returns-3 c = c .table-line .ensures ∙ sym (read-letter (c .before .before) (c .before .if3 .taken))
 
--- src/lib.rt:262:9
 segment-line-requires : tie.Need-segment-line-requires
 segment-line-requires c κs = search needs
 
--- src/lib.rt:262:9
 returns-4 : tie.Need-returns-4
 returns-4 c = c .segment-line .ensures ∙ sym (read-letter (c .before .before .before) (c .before .if4 .taken))
 
--- src/lib.rt:265:9
 window-line-requires : tie.Need-window-line-requires
 window-line-requires c κs = search needs
 
--- src/lib.rt:265:9
 returns-5 : tie.Need-returns-5
 returns-5 c = c .window-line .ensures ∙ sym (read-letter (c .before .before .before .before) (c .before .if5 .taken))
 
--- src/lib.rt:247:1
 returns-6 : tie.Need-returns-6
 returns-6 c = no-letter (c .before .before .before .wide .result) (numbersFrom (c .before .before .before .before .before .before .before .before .before .args .f .now) 2) (c .before .before .if3 .left) (c .before .if4 .left) (c .if5 .left) ∙ sym (read-letter (c .before .before .before) refl)
 

@@ -1,21 +1,17 @@
+-- `fields::negative` meets its contract. Assumes nothing.
 use mathlib.Core.Path.{_∙_}
 use mir.Facts.{toZ-ofZ}
 use Rattle.fields.specs.Numbers.{less-fits, less-is}
 use borrow.Author.Needs.{needs}
 use Rattle.fields.proofs.negative.Statement.{statement}
 use Rattle.fields.proofs.negative.Tie as tie
-use Rattle.fields.proofs.negative.Reads as reads
-use Rattle.fields.proofs.negative.Lts as lts
 
--- src/lib.rt:96:10
 cast-result : tie.Need-cast-result
 cast-result c = search needs
 
--- src/lib.rt:96:5
 sub-result : tie.Need-sub-result
 sub-result c = less-fits (c .args .v) (c .pre)
 
--- src/lib.rt:92:1
 returns : tie.Need-returns
 returns c = toZ-ofZ (less-fits (c .args .v) (c .pre)) ∙ less-is (c .args .v) (c .pre)
 

@@ -1,4 +1,5 @@
-use mathlib.Core.Path.{_≡_, sym, ap, _∙_}
+-- `fields::number_in` meets its contract. Assumes nothing.
+use mathlib.Core.Path.{sym, ap, _∙_}
 use lib.IntN.{pos, negℤ}
 use mir.Syntax.{w64}
 use mir.Facts.{toZ-ofZ}
@@ -6,67 +7,46 @@ use Rattle.fields.specs.Numbers.{field-empty, minus-zero, minus-is, minu
 use borrow.Author.Needs.{needs}
 use Rattle.fields.proofs.number_in.Statement.{statement}
 use Rattle.fields.proofs.number_in.Tie as tie
-use Rattle.fields.proofs.number_in.Reads as reads
-use Rattle.fields.proofs.number_in.Lts as lts
-use Rattle.fields.proofs.decimal_from.Reads as decimal-from-reads
-use Rattle.fields.proofs.negative.Reads as negative-reads
-use Rattle.fields.proofs.positive.Reads as positive-reads
-use Rattle.fields.proofs.value_from.Reads as value-from-reads
-use Rattle.fields.proofs.wide.Reads as wide-reads
 
--- src/lib.rt:104:9
 returns : tie.Need-returns
 returns c = field-empty (c .before .before .args .f .now) (c .if1 .taken)
 
--- src/lib.rt:106:18
 shared-slice-read-wide : tie.Need-shared-slice-read-wide
 shared-slice-read-wide c = search needs
 
--- src/lib.rt:106:9
 wide-requires : tie.Need-wide-requires
 wide-requires c κs = search needs
 
--- src/lib.rt:108:12
 decimal-from-requires : tie.Need-decimal-from-requires
 decimal-from-requires c κs = search needs
 
--- src/lib.rt:109:17
 value-from-requires : tie.Need-value-from-requires
 value-from-requires c κs = decimal-short (c .before .before .before .before .before .before .before .args .f .now) 1 (sym (c .before .decimal-from .ensures) ∙ c .if3 .taken)
 
--- src/lib.rt:111:17
 returns-2 : tie.Need-returns-2
 returns-2 c = minus-zero (c .before .before .before .before .before .before .before .before .before .args .f .now) (c .before .before .before .before .before .before .before .if1 .left) (sym (c .before .before .before .before .before .wide .ensures .0) ∙ c .before .before .before .before .if2 .taken) (sym (c .before .before .before .decimal-from .ensures) ∙ c .before .before .if3 .taken) (sym (c .before .value-from .ensures .0) ∙ c .if4 .taken)
 
--- src/lib.rt:113:17
 negative-requires : tie.Need-negative-requires
 negative-requires c κs = search needs
 
--- src/lib.rt:114:13
 returns-3 : tie.Need-returns-3
 returns-3 c = minus-is (c .before .before .before .before .before .before .before .before .before .before .args .f .now) (c .before .before .before .before .before .before .before .before .if1 .left) (sym (c .before .before .before .before .before .before .wide .ensures .0) ∙ c .before .before .before .before .before .if2 .taken) (sym (c .before .before .before .before .decimal-from .ensures) ∙ c .before .before .before .if3 .taken) (λ e. c .before .if4 .left (c .before .before .value-from .ensures .0 ∙ e)) (toZ-ofZ {w = w64} (record { sfits = c .negative .ok }) ∙ c .negative .ensures ∙ ap (λ v. negℤ (pos v)) (c .before .before .value-from .ensures .0))
 
--- src/lib.rt:116:9
 returns-4 : tie.Need-returns-4
 returns-4 c = minus-none (c .before .before .before .before .before .before .before .args .f .now) (c .before .before .before .before .before .if1 .left) (sym (c .before .before .before .wide .ensures .0) ∙ c .before .before .if2 .taken) (sym (c .before .decimal-from .ensures) ∙ c .if3 .left)
 
--- src/lib.rt:118:8
 decimal-from-requires-2 : tie.Need-decimal-from-requires-2
 decimal-from-requires-2 c κs = search needs
 
--- src/lib.rt:119:13
 value-from-requires-2 : tie.Need-value-from-requires-2
 value-from-requires-2 c κs = decimal-short (c .before .before .before .before .before .before .before .args .f .now) 0 (sym (c .before .decimal-from2 .ensures) ∙ c .if5 .taken)
 
--- src/lib.rt:120:13
 positive-requires : tie.Need-positive-requires
 positive-requires c κs = search needs
 
--- src/lib.rt:121:9
 returns-5 : tie.Need-returns-5
 returns-5 c = plain-is (c .before .before .before .before .before .before .before .before .before .args .f .now) (c .before .before .before .before .before .before .before .if1 .left) (λ e. c .before .before .before .before .if2 .left (c .before .before .before .before .before .wide .ensures .0 ∙ e)) (sym (c .before .before .before .decimal-from2 .ensures) ∙ c .before .before .if5 .taken) (toZ-ofZ {w = w64} (record { sfits = c .positive .ok }) ∙ c .positive .ensures ∙ ap pos (c .before .value-from2 .ensures .0))
 
--- src/lib.rt:100:1
 returns-6 : tie.Need-returns-6
 returns-6 c = plain-none (c .before .before .before .before .before .before .before .args .f .now) (c .before .before .before .before .before .if1 .left) (λ e. c .before .before .if2 .left (c .before .before .before .wide .ensures .0 ∙ e)) (sym (c .before .decimal-from2 .ensures) ∙ c .if5 .left)
 

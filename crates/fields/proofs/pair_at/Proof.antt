@@ -1,45 +1,35 @@
-use mathlib.Core.Path.{_≡_, refl, sym, ap, ap₂, _∙_, subst}
+-- `fields::pair_at` meets its contract. Assumes nothing.
+use mathlib.Core.Path.{refl, ap, _∙_}
 use mir.Syntax.{w64}
 use Rattle.whole.specs.Whole.{kept}
 use Rattle.paper.specs.Lines.{also}
 use mathlib.Core.Option.{some}
-use Rattle.fields.specs.Forms.{numbersFrom, field-told, field-missed, second-missed}
+use Rattle.fields.specs.Forms.{field-told, field-missed, second-missed}
 use borrow.Author.Needs.{needs}
 use Rattle.fields.proofs.pair_at.Statement.{statement}
 use Rattle.fields.proofs.pair_at.Tie as tie
-use Rattle.fields.proofs.pair_at.Reads as reads
-use Rattle.fields.proofs.pair_at.Lts as lts
-use Rattle.fields.proofs.field_at.Reads as field-at-reads
 
--- src/lib.rt:175:27
 field-at-requires : tie.Need-field-at-requires
 field-at-requires c κs = search needs
 
--- src/lib.rt:175:19
 enum-known-x : tie.Need-enum-known-x
 enum-known-x c = search needs
 
--- src/lib.rt:176:9
 enum-told : tie.Need-enum-told
 enum-told c = search needs
 
--- src/lib.rt:176:9
 returns : tie.Need-returns
 returns c = field-missed (c .before .before .before .before .args .f .now) (c .before .before .before .before .args .a) (c .enum-told .given .1) (c .before .before .field-at .ensures)
 
--- src/lib.rt:178:27
 field-at-requires-2 : tie.Need-field-at-requires-2
 field-at-requires-2 c κs = search needs
 
--- src/lib.rt:178:19
 enum-known-y : tie.Need-enum-known-y
 enum-known-y c = search needs
 
--- src/lib.rt:179:9
 enum-told-2 : tie.Need-enum-told-2
 enum-told-2 c = search needs
 
--- src/lib.rt:179:9
 returns-2 : tie.Need-returns-2
 returns-2 c =
     let s = c .before .before .before .before .before .before .before .before .args in
@@ -47,7 +37,6 @@ returns-2 c =
     let x = t .before .x .given in
     second-missed (s .f .now) (s .a) (x .0 .0) (x .0 .1 .0) (field-told (s .f .now) (s .a) (x .1) refl (t .before .before .before .field-at .ensures)) (c .enum-told2 .given .1) (c .before .before .field-at2 .ensures)
 
--- src/lib.rt:172:1
 returns-3 : tie.Need-returns-3
 returns-3 c =
     let s = c .before .before .before .before .before .before .before .before .before .args in

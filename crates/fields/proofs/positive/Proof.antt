@@ -1,17 +1,14 @@
+-- `fields::positive` meets its contract. Assumes nothing.
 use native.Mathlib.Omega.{arith}
 use mir.Syntax.{w64}
 use mir.Facts.{toZ-pos}
 use borrow.Author.Needs.{needs}
 use Rattle.fields.proofs.positive.Statement.{statement}
 use Rattle.fields.proofs.positive.Tie as tie
-use Rattle.fields.proofs.positive.Reads as reads
-use Rattle.fields.proofs.positive.Lts as lts
 
--- src/lib.rt:89:5
 cast-result : tie.Need-cast-result
 cast-result c = search needs
 
--- src/lib.rt:85:1
 returns : tie.Need-returns
 returns c = toZ-pos w64 (omega arith)
 

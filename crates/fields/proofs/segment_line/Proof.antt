@@ -1,4 +1,5 @@
-use mathlib.Core.Path.{_≡_, sym, ap, ap₂, _∙_, subst}
+-- `fields::segment_line` meets its contract. Assumes nothing.
+use mathlib.Core.Path.{sym, ap, _∙_}
 use mir.Syntax.{w64}
 use Rattle.whole.specs.Whole.{kept}
 use Rattle.paper.specs.Lines.{asSegment}
@@ -6,27 +7,19 @@ use Rattle.fields.specs.Forms.{numbersFrom, madeOf, form-S}
 use borrow.Author.Needs.{needs}
 use Rattle.fields.proofs.segment_line.Statement.{statement}
 use Rattle.fields.proofs.segment_line.Tie as tie
-use Rattle.fields.proofs.segment_line.Reads as reads
-use Rattle.fields.proofs.segment_line.Lts as lts
-use Rattle.fields.proofs.four_at.Reads as four-at-reads
 
--- src/lib.rt:231:37
 four-at-requires : tie.Need-four-at-requires
 four-at-requires c κs = search needs
 
--- src/lib.rt:231:19
 enum-known-x1 : tie.Need-enum-known-x1
 enum-known-x1 c = search needs
 
--- src/lib.rt:232:9
 enum-told : tie.Need-enum-told
 enum-told c = search needs
 
--- src/lib.rt:232:9
 returns : tie.Need-returns
 returns c = ap (madeOf asSegment) (sym (c .enum-told .given .1)) ∙ c .before .before .four-at .ensures asSegment ∙ form-S (numbersFrom (c .before .before .before .before .args .f .now) 2)
 
--- src/lib.rt:228:1
 returns-2 : tie.Need-returns-2
 returns-2 c =
     let x = c .before .x1 .given in

@@ -1,4 +1,5 @@
-use mathlib.Core.Path.{_≡_, refl, sym, ap, ap₂, _∙_, subst}
+-- `fields::table_line` meets its contract. Assumes nothing.
+use mathlib.Core.Path.{refl, _∙_}
 use mir.Syntax.{w64}
 use Rattle.whole.specs.Whole.{kept}
 use Rattle.paper.specs.Lines.{asTable}
@@ -6,36 +7,27 @@ use Rattle.fields.specs.Forms.{numbersFrom, pair-told, pair-missed, few-
 use borrow.Author.Needs.{needs}
 use Rattle.fields.proofs.table_line.Statement.{statement}
 use Rattle.fields.proofs.table_line.Tie as tie
-use Rattle.fields.proofs.table_line.Reads as reads
-use Rattle.fields.proofs.table_line.Lts as lts
-use Rattle.fields.proofs.pair_at.Reads as pair-at-reads
 
--- src/lib.rt:219:37
 pair-at-requires : tie.Need-pair-at-requires
 pair-at-requires c κs = search needs
 
--- src/lib.rt:219:19
 enum-known-kind : tie.Need-enum-known-kind
 enum-known-kind c = search needs
 
--- src/lib.rt:220:9
 enum-told : tie.Need-enum-told
 enum-told c = search needs
 
--- src/lib.rt:220:9
 returns : tie.Need-returns
 returns c =
     let f = c .before .before .before .before .args .f .now in
     few-two asTable (numbersFrom f 2) (pair-missed f 2 (c .enum-told .given .1) (c .before .before .pair-at .ensures)) ∙ form-T (numbersFrom f 2)
 
--- src/lib.rt:223:9
 returns-2 : tie.Need-returns-2
 returns-2 c =
     let f = c .before .before .before .before .before .before .args .f .now in
     let k = c .before .before .kind .given in
     two-more f (pair-told f 2 (k .1) refl refl (c .before .before .before .before .pair-at .ensures)) asTable (c .if1 .taken) ∙ form-T (numbersFrom f 2)
 
--- src/lib.rt:216:1
 returns-3 : tie.Need-returns-3
 returns-3 c =
     let f = c .before .before .before .before .before .before .args .f .now in

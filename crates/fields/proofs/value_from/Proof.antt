@@ -1,17 +1,13 @@
-use mathlib.Core.Path.{_≡_, refl, sym, ap, ap₂, _∙_}
-use mathlib.Core.Bool.{_&&_}
-use Prim.Native.Nat.{ℕ, _+_, _-_, _*_, _≤_, _<_}
+-- `fields::value_from` meets its contract. Assumes nothing.
+use mathlib.Core.Path.{_≡_, refl, sym, ap, _∙_}
+use Prim.Native.Nat.{_+_, _-_, _*_, _≤_}
 use native.Mathlib.Omega.{arith}
 use borrow.Author.Needs.{needs}
-use lib.ListN.{length, drop, getD}
+use lib.ListN.{length, drop}
 use Rattle.paper.specs.Lines.{valueFrom}
 use Rattle.fields.specs.Numbers.{pow10, pow10-most, value-more, value-end, bound-more}
 use Rattle.fields.proofs.value_from.Statement.{statement}
 use Rattle.fields.proofs.value_from.Tie as tie
-use Rattle.fields.proofs.value_from.Reads as reads
-use Rattle.fields.proofs.value_from.Lts as lts
-use Rattle.fields.proofs.less_48.Reads as less-48-reads
-use Rattle.fields.proofs.wide.Reads as wide-reads
 
 abbrev Inv-loop : tie.InvT-loop
 Inv-loop f a v₀ i₀ v i = (i ≤ length f) × (a ≤ i) × (valueFrom v (drop i f) ≡ valueFrom 0 (drop a f)) × (v + 23 ≤ 23 * pow10 (i - a))
@@ -19,23 +15,18 @@ Inv-loop f a v₀ i₀ v i = (i ≤ length f) × (a ≤ i) × (valueFrom v (drop
 abbrev μ-loop : tie.MeasureT-loop
 μ-loop f a v₀ i₀ v i = length f - i
 
--- src/lib.rt:60:5
 loop-holds : tie.Need-loop-holds Inv-loop μ-loop
 loop-holds c = let e : c .before .args .a - c .before .args .a ≡ 0 = omega arith in (c .before .pre .0, omega arith, refl, omega (arith, ap pow10 e))
 
--- src/lib.rt:61:22
 shared-slice-read-wide : tie.Need-shared-slice-read-wide Inv-loop μ-loop
 shared-slice-read-wide c = search needs
 
--- src/lib.rt:61:13
 wide-requires : tie.Need-wide-requires Inv-loop μ-loop
 wide-requires c κs = search needs
 
--- src/lib.rt:62:13
 less-48-requires : tie.Need-less-48-requires Inv-loop μ-loop
 less-48-requires c κs = search needs
 
--- src/lib.rt:63:13
 mul-v : tie.Need-mul-v Inv-loop μ-loop
 mul-v c =
     let s = c .before .before .before .before .before .before in
@@ -43,7 +34,6 @@ mul-v c =
     let h = c .before .before .before .loop-test .taken in
     omega (arith, l .inv .3, pow10-most (l .i - s .args .a) (omega (arith, h, s .pre .1)), c .less-48 .ensures, c .before .wide .ensures .1)
 
--- src/lib.rt:63:13
 add-v : tie.Need-add-v Inv-loop μ-loop
 add-v c =
     let s = c .before .before .before .before .before .before in
@@ -51,15 +41,12 @@ add-v c =
     let h = c .before .before .before .loop-test .taken in
     omega (arith, l .inv .3, pow10-most (l .i - s .args .a) (omega (arith, h, s .pre .1)), c .less-48 .ensures, c .before .wide .ensures .1)
 
--- src/lib.rt:64:9
 add-i : tie.Need-add-i Inv-loop μ-loop
 add-i c = search needs
 
--- src/lib.rt:60:5
 loop-less : tie.Need-loop-less Inv-loop μ-loop
 loop-less c = search needs
 
--- src/lib.rt:60:5
 loop-again : tie.Need-loop-again Inv-loop μ-loop
 loop-again c =
     let s = c .before .before .before .before .before .before in
@@ -68,7 +55,6 @@ loop-again c =
     let h = c .before .before .before .loop-test .taken in
     (omega arith, omega (arith, l .inv .1), ap (λ x. valueFrom (10 * l .v + x) (drop (l .i + 1) f)) (c .less-48 .ensures ∙ ap (λ b. b - 48) (c .before .wide .ensures .0)) ∙ value-more f (l .i) (l .v) h ∙ l .inv .2, bound-more (s .args .a) (l .i) (l .v) (c .less-48 .result) (l .inv .1) (omega (arith, c .less-48 .ensures, c .before .wide .ensures .1)) (l .inv .3))
 
--- src/lib.rt:54:1
 returns : tie.Need-returns Inv-loop μ-loop
 returns c =
     let s = c .before .before .before in

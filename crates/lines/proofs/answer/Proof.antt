@@ -1,6 +1,7 @@
-use mathlib.Core.Path.{_≡_, refl, sym, ap, ap₂, _∙_, subst}
+-- `lines::answer` meets its contract. Assumes nothing.
+use mathlib.Core.Path.{_≡_, sym, ap, _∙_, subst}
 use mathlib.Core.List.{_++_}
-use Prim.Native.Nat.{_+_, _*_, _≤_, _<_}
+use Prim.Native.Nat.{_≤_}
 use native.Mathlib.Omega.{arith}
 use lib.IntN.{pos}
 use lib.ListN.{length, take, drop, replicate}
@@ -12,11 +13,6 @@ use Rattle.lines.specs.Asking.{most-words, printed-over}
 use borrow.Author.Needs.{needs}
 use Rattle.lines.proofs.answer.Statement.{statement}
 use Rattle.lines.proofs.answer.Tie as tie
-use Rattle.lines.proofs.answer.Reads as reads
-use Rattle.lines.proofs.answer.Lts as lts
-use Rattle.standin.proofs.query.Reads as query-reads
-use Rattle.table.proofs.words.Reads as words-reads
-use Rattle.texts.proofs.put_answer.Reads as put-answer-reads
 
 -- the index has the words, and the number buffer the cells
 words-fit : (c : tie.After-words) → c .words .result ≤ length (c .before .before .args .index .now)
@@ -33,49 +29,38 @@ left c = c .query .kept .1 .1 .0 ∙ cells-fit (c .before .before .before .befor
 lent-again : (c : tie.After-query) → take (c .before .before .before .before .before .args .t .size) (c .query .last .1 .1 .0 ++ drop (c .before .before .before .before .before .args .t .size) (c .before .before .before .before .before .args .numbers .now)) ≡ c .query .last .1 .1 .0
 lent-again c = take-at (c .query .last .1 .1 .0) (drop (c .before .before .before .before .before .args .t .size) (c .before .before .before .before .before .args .numbers .now)) (c .before .before .before .before .before .args .t .size) (left c)
 
--- src/lib.rt:138:9
 words-requires : tie.Need-words-requires
 words-requires c κs = search needs
 
--- src/lib.rt:139:32
 slice-aggregate-query : tie.Need-slice-aggregate-query
 slice-aggregate-query c = sym (length-take-le (c .before .words .result) (c .before .before .before .args .index .now) (words-fit (c .before)))
 
--- src/lib.rt:139:52
 slice-relend-prefix-query : tie.Need-slice-relend-prefix-query
 slice-relend-prefix-query c = search needs
 
--- src/lib.rt:139:52
 slice-aggregate-query-2 : tie.Need-slice-aggregate-query-2
 slice-aggregate-query-2 c = sym (cells-fit (c .before .before .before .before))
 
--- src/lib.rt:139:9
 query-requires : tie.Need-query-requires
-query-requires c κs = ?
+query-requires c κs = search needs
 
--- src/lib.rt:140:39
 slice-reshare-prefix-put-answer : tie.Need-slice-reshare-prefix-put-answer
 slice-reshare-prefix-put-answer c = search needs
 
--- src/lib.rt:140:39
 slice-aggregate-put-answer : tie.Need-slice-aggregate-put-answer
 slice-aggregate-put-answer c = sym (ap length (lent-again (c .before .before .before)) ∙ left (c .before .before .before))
 
--- src/lib.rt:140:5
 put-answer-requires : tie.Need-put-answer-requires
 put-answer-requires c κs =
     let s = c .before .before .before .before .before .before .before .before in
     omega (arith, ap length (lent-again (c .before .before .before)) ∙ left (c .before .before .before), s .pre .0, s .pre .3)
 
--- src/lib.rt:133:1
 same-length : tie.Need-same-length
 same-length c = search needs
 
--- src/lib.rt:133:1
 same-length-2 : tie.Need-same-length-2
 same-length-2 c = search needs
 
--- src/lib.rt:133:1
 returns : tie.Need-returns
 returns c =
     let s = c .before .before .before .before .before .before .before .before .before .before .before in
@@ -84,7 +69,7 @@ returns c =
     (c .before .before .put-answer .ensures .0,
       subst (λ t. Written t (a .at) (a .out .now) (c .before .before .put-answer .result) (c .before .before .put-answer .last .0))
     (ap (λ l. printed (q .query .result, l)) (lent-again q)
-    ∙ ap printed (q .query .ensures)
+    ∙ ap printed (q .query .ensures .0)
     ∙ printed-over (take (q .before .before .before .words .result) (a .index .now)) (a .w) (a .t .size) (take (a .t .size) (a .numbers .now)) (cells-fit s)
     ∙ ap (λ n. printed (queried (take n (a .index .now)) (a .w) (replicate (a .t .size) (pos 0)))) (q .before .before .before .words .ensures .0))
     (c .before .before .put-answer .ensures .1))

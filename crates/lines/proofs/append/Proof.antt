@@ -1,3 +1,4 @@
+-- `lines::append` meets its contract. Assumes nothing.
 use mathlib.Core.Path.{_≡_, refl, sym, ap, _∙_}
 use Prim.Native.Nat.{_+_, _-_, _≤_}
 use native.Mathlib.Omega.{arith}
@@ -8,8 +9,6 @@ use Rattle.lines.specs.Reading.{due-byte, all-bytes}
 use borrow.Author.Needs.{needs}
 use Rattle.lines.proofs.append.Statement.{statement}
 use Rattle.lines.proofs.append.Tie as tie
-use Rattle.lines.proofs.append.Reads as reads
-use Rattle.lines.proofs.append.Lts as lts
 
 abbrev Inv-loop : tie.InvT-loop
 Inv-loop carry₀ n bytes i₀ carry i = (i ≤ length bytes) × (length carry ≡ length carry₀) × (put (n + i) (drop i bytes) carry ≡ put n bytes carry₀)
@@ -17,31 +16,24 @@ Inv-loop carry₀ n bytes i₀ carry i = (i ≤ length bytes) × (length carry �
 abbrev μ-loop : tie.MeasureT-loop
 μ-loop carry₀ n bytes i₀ carry i = length bytes - i
 
--- src/lib.rt:258:5
 loop-holds : tie.Need-loop-holds Inv-loop μ-loop
 loop-holds c = (omega arith, refl, ap (λ k. put k (c .args .bytes .now) (c .args .carry .now)) (add-zero (c .args .n)))
 
--- src/lib.rt:259:24
 shared-slice-read-carry : tie.Need-shared-slice-read-carry Inv-loop μ-loop
 shared-slice-read-carry c = search needs
 
--- src/lib.rt:259:15
 add-carry : tie.Need-add-carry Inv-loop μ-loop
 add-carry c = search needs
 
--- src/lib.rt:259:9
 slice-write-carry : tie.Need-slice-write-carry Inv-loop μ-loop
 slice-write-carry c = search needs
 
--- src/lib.rt:260:9
 add-i : tie.Need-add-i Inv-loop μ-loop
 add-i c = search needs
 
--- src/lib.rt:258:5
 loop-less : tie.Need-loop-less Inv-loop μ-loop
 loop-less c = search needs
 
--- src/lib.rt:258:5
 loop-again : tie.Need-loop-again Inv-loop μ-loop
 loop-again c =
     let s = c .before .before .before in
@@ -49,11 +41,9 @@ loop-again c =
     let h = c .before .loop-test .taken in
     (omega (arith, h), length-set (l .carry) (s .args .n + l .i) (getD (s .args .bytes .now) (l .i) 0) ∙ l .inv .1, sym (due-byte (s .args .n) (l .i) (s .args .bytes .now) (l .carry) h (omega (arith, h, s .pre, l .inv .1))) ∙ l .inv .2)
 
--- src/lib.rt:253:1
 same-length : tie.Need-same-length Inv-loop μ-loop
 same-length c = search needs
 
--- src/lib.rt:253:1
 returns : tie.Need-returns Inv-loop μ-loop
 returns c =
     let a = c .before .before .args in

@@ -1,36 +1,27 @@
-use mathlib.Core.Path.{_≡_, refl, sym, ap, ap₂, _∙_, subst}
-use native.Mathlib.Omega.{arith}
-use lib.ListN.{length}
+-- `lines::asked` meets its contract. Assumes nothing.
+use mathlib.Core.Path.{sym, ap, _∙_, subst}
 use Rattle.fields.specs.Forms.{shownLine}
 use Rattle.lines.specs.declared.Outcome.the-variants.{Fault, Next}
-use Rattle.lines.specs.declared.State.the-variants.{Start, Filling, Asking}
+use Rattle.lines.specs.declared.State.the-variants.{Asking}
 use Rattle.lines.specs.States.{Asked}
 use Rattle.lines.specs.Steps.{T-late, S-late, other-late, W-bad, W-good}
 use Rattle.lines.proofs.Tags.{no-window}
 use borrow.Author.Needs.{needs}
 use Rattle.lines.proofs.asked.Statement.{statement}
 use Rattle.lines.proofs.asked.Tie as tie
-use Rattle.lines.proofs.asked.Reads as reads
-use Rattle.lines.proofs.asked.Lts as lts
-use Rattle.lines.proofs.answer.Reads as answer-reads
-use Rattle.meeting.proofs.bad_window.Reads as bad-window-reads
 
--- src/lib.rt:150:22
 enum-known-line : tie.Need-enum-known-line
 enum-known-line c = search needs
 
--- src/lib.rt:151:9
 returns : tie.Need-returns
 returns c =
     let a = c .before .before .args in
     no-window (λ l. Asked (a .t) l (a .index .now) (a .out .now) (a .at) (Fault 0) (a .out .now)) (a .line) (c .match .keys2)
     (T-late (a .t) (a .index .now) (a .out .now) (a .at)) (S-late (a .t) (a .index .now) (a .out .now) (a .at)) (other-late (a .t) (a .index .now) (a .out .now) (a .at))
 
--- src/lib.rt:153:8
 bad-window-requires : tie.Need-bad-window-requires
 bad-window-requires c κs = search needs
 
--- src/lib.rt:154:9
 returns-2 : tie.Need-returns-2
 returns-2 c =
     let a = c .before .before .before .before .before .before .args in
@@ -38,19 +29,15 @@ returns-2 c =
     subst (λ l. Asked (a .t) l (a .index .now) (a .out .now) (a .at) (Fault 8) (a .out .now)) (sym (ap shownLine (x .1)))
     (W-bad (a .t) (a .index .now) (a .out .now) (a .at) (x .0 .0) (sym (c .before .bad-window .ensures) ∙ c .if1 .taken))
 
--- src/lib.rt:156:9
 answer-requires : tie.Need-answer-requires
 answer-requires c κs = search needs
 
--- src/lib.rt:146:1
 same-length : tie.Need-same-length
 same-length c = search needs
 
--- src/lib.rt:146:1
 same-length-2 : tie.Need-same-length-2
 same-length-2 c = search needs
 
--- src/lib.rt:146:1
 returns-3 : tie.Need-returns-3
 returns-3 c =
     let a = c .before .before .before .before .before .before .before .before .before .before .before .before .args in

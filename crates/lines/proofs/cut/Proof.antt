@@ -1,21 +1,15 @@
-use mathlib.Core.Path.{_≡_, refl, sym, ap, ap₂, _∙_, subst}
+-- `lines::cut` meets its contract. Assumes nothing.
+use mathlib.Core.Path.{_≡_, sym, ap, ap₂, _∙_, subst}
 use mathlib.Core.List.{_++_}
-use Prim.Native.Nat.{_+_, _-_, _≤_, _<_}
+use Prim.Native.Nat.{_+_, _-_}
 use native.Mathlib.Omega.{arith}
 use lib.ListN.{length, take, drop, length-append, length-drop}
 use lib.Seq.{length-take-le}
-use Rattle.lists.specs.Parts.{put}
 use Rattle.paper.specs.Lines.{lineOf}
-use Rattle.lines.specs.Reading.{Judged, bytes, piece, turned-line, turned-long, turned-over, carried-take}
+use Rattle.lines.specs.Reading.{Judged, turned-line, turned-long, turned-over, carried-take}
 use borrow.Author.Needs.{needs}
 use Rattle.lines.proofs.cut.Statement.{statement}
 use Rattle.lines.proofs.cut.Tie as tie
-use Rattle.lines.proofs.cut.Reads as reads
-use Rattle.lines.proofs.cut.Lts as lts
-use Rattle.fields.proofs.end_of.Reads as end-of-reads
-use Rattle.lines.proofs.append.Reads as append-reads
-use Rattle.lines.proofs.judge.Reads as judge-reads
-use Rattle.texts.proofs.put_fault.Reads as put-fault-reads
 
 -- the bytes that the chunk has of the line, and all of them, are so many
 piece-length : (c : tie.After-end-of) → length (take (c .end-of .result - c .before .before .before .before .args .r .at) (drop (c .before .before .before .before .args .r .at) (c .before .before .before .before .args .chunk .now))) ≡ c .end-of .result - c .before .before .before .before .args .r .at
@@ -35,47 +29,36 @@ carried c =
     ap (take (a .r .carried + (e .end-of .result - a .r .at))) (c .append .ensures)
     ∙ carried-take (a .r .carried) (a .r .carried + (e .end-of .result - a .r .at)) (take (e .end-of .result - a .r .at) (drop (a .r .at) (a .chunk .now))) (a .carry .now) (omega (arith, s .pre .0 .carries, s .pre .1 .short)) (ap (λ k. a .r .carried + k) (sym (piece-length e)))
 
--- src/lib.rt:272:9
 end-of-requires : tie.Need-end-of-requires
 end-of-requires c κs = search needs
 
--- src/lib.rt:275:26
 sub-judge : tie.Need-sub-judge
 sub-judge c = search needs
 
--- src/lib.rt:275:26
 part-judge-start : tie.Need-part-judge-start
 part-judge-start c = search needs
 
--- src/lib.rt:275:26
 part-judge-end : tie.Need-part-judge-end
 part-judge-end c = search needs
 
--- src/lib.rt:275:44
 add-judge : tie.Need-add-judge
 add-judge c = search needs
 
--- src/lib.rt:275:13
 judge-requires : tie.Need-judge-requires
 judge-requires c κs = search needs
 
--- src/lib.rt:275:13
 same-length : tie.Need-same-length
 same-length c = search needs
 
--- src/lib.rt:275:13
 same-length-2 : tie.Need-same-length-2
 same-length-2 c = search needs
 
--- src/lib.rt:275:13
 same-length-3 : tie.Need-same-length-3
 same-length-3 c = search needs
 
--- src/lib.rt:275:13
 same-length-4 : tie.Need-same-length-4
 same-length-4 c = search needs
 
--- src/lib.rt:275:13
 returns : tie.Need-returns
 returns c =
     let s = c .before .before .before .before .before .before .before .before .before .before .before .before .before .before .before .before .before in
@@ -87,27 +70,21 @@ returns c =
     (turned-line (a .r) l (a .cells .now) (a .index .now) (a .carry .now) (s .pre .1) (s .pre .2 .going) (t .end-of .ensures) (c .before .before .before .before .before .before .before .before .before .before .before .if2 .taken) h,
       omega (arith, j .ensures .next .0, t .end-of .ensures .starts))
 
--- src/lib.rt:278:18
 sub-m : tie.Need-sub-m
 sub-m c = search needs
 
--- src/lib.rt:278:13
 add-m : tie.Need-add-m
 add-m c = search needs
 
--- src/lib.rt:282:13
 put-fault-requires : tie.Need-put-fault-requires
 put-fault-requires c κs = search needs
 
--- src/lib.rt:287:17
 add-t36 : tie.Need-add-t36
 add-t36 c = search needs
 
--- src/lib.rt:283:9
 same-length-5 : tie.Need-same-length-5
 same-length-5 c = search needs
 
--- src/lib.rt:283:9
 returns-2 : tie.Need-returns-2
 returns-2 c =
     let s = c .before .before .before .before .before .before .before .before .before .before in
@@ -118,66 +95,52 @@ returns-2 c =
       (omega (arith, c .before .before .before .before .if3 .taken, length-append (take (a .r .carried) (a .carry .now)) (take (t .end-of .result - a .r .at) (drop (a .r .at) (a .chunk .now))), carry-length s, piece-length t)) (p .ensures .0) (p .ensures .1),
       omega (arith, t .end-of .ensures .starts))
 
--- src/lib.rt:292:22
 sub-append : tie.Need-sub-append
 sub-append c = search needs
 
--- src/lib.rt:292:22
 part-append-start : tie.Need-part-append-start
 part-append-start c = search needs
 
--- src/lib.rt:292:22
 part-append-end : tie.Need-part-append-end
 part-append-end c = search needs
 
--- src/lib.rt:292:5
 append-requires : tie.Need-append-requires
 append-requires c κs =
     let s = c .before .before .before .before .before .before .before .before in
     omega (arith, c .before .before .if3 .left, piece-length (c .before .before .before .before), s .pre .0 .carries)
 
--- src/lib.rt:294:22
 slice-reshare-prefix-judge : tie.Need-slice-reshare-prefix-judge
 slice-reshare-prefix-judge c = search needs
 
--- src/lib.rt:294:22
 slice-aggregate-judge : tie.Need-slice-aggregate-judge
 slice-aggregate-judge c =
     let s = c .before .before .before .before .before .before .before .before .before .before .before .before .before in
     let t = c .before .before .before .before .before .before .before .before .before in
     sym (ap length (carried (c .before .before .before .before)) ∙ length-append (take (s .args .r .carried) (s .args .carry .now)) (take (t .end-of .result - s .args .r .at) (drop (s .args .r .at) (s .args .chunk .now))) ∙ ap₂ _+_ (carry-length s) (piece-length t))
 
--- src/lib.rt:294:38
 add-judge-2 : tie.Need-add-judge-2
 add-judge-2 c = search needs
 
--- src/lib.rt:294:9
 judge-requires-2 : tie.Need-judge-requires-2
 judge-requires-2 c κs =
     let s = c .before .before .before .before .before .before .before .before .before .before .before .before .before .before .before .before .before in
     (record { table = s .pre .0 .table; words = s .pre .0 .words; numbered = s .pre .0 .numbered; room = s .pre .2 .room }, s .pre .1 .kept, s .pre .2 .few)
 
--- src/lib.rt:294:9
 same-length-6 : tie.Need-same-length-6
 same-length-6 c = search needs
 
--- src/lib.rt:294:9
 same-length-7 : tie.Need-same-length-7
 same-length-7 c = search needs
 
--- src/lib.rt:294:9
 same-length-8 : tie.Need-same-length-8
 same-length-8 c = search needs
 
--- src/lib.rt:294:9
 same-length-9 : tie.Need-same-length-9
 same-length-9 c = search needs
 
--- src/lib.rt:294:9
 same-length-10 : tie.Need-same-length-10
 same-length-10 c = search needs
 
--- src/lib.rt:294:9
 returns-3 : tie.Need-returns-3
 returns-3 c =
     let s = c .before .before .before .before .before .before .before .before .before .before .before .before .before .before .before .before .before .before .before .before .before .before .before in
@@ -188,11 +151,9 @@ returns-3 c =
     (turned-line (a .r) (a .chunk .now) (a .cells .now) (a .index .now) (a .carry .now) (s .pre .1) (s .pre .2 .going) (t .end-of .ensures) (c .before .before .before .before .before .before .before .before .before .before .before .if4 .taken) h,
       omega (arith, j .ensures .next .0, t .end-of .ensures .starts))
 
--- src/lib.rt:266:1
 same-length-11 : tie.Need-same-length-11
 same-length-11 c = search needs
 
--- src/lib.rt:266:1
 returns-4 : tie.Need-returns-4
 returns-4 c =
     let s = c .before .before .before .before .before .before .before .before .before .before .before .before in

@@ -1,24 +1,15 @@
-use mathlib.Core.Path.{_≡_, refl, sym, ap, ap₂, _∙_, subst}
-use mathlib.Core.List.{[], _∷_}
-use Prim.Native.Nat.{_+_, _*_, _≤_, _<_}
-use native.Mathlib.Omega.{arith}
-use lib.ListN.{length, set, length-set}
-use mir.Syntax.{w32, w64}
-use mir.Val.{SFits, toZ, ofZ}
+-- `lines::descriptor` meets its contract. Assumes nothing.
+use mathlib.Core.Path.{refl}
+use mir.Syntax.{w64}
 use mir.ValLaws.{toZ-ofZ}
 use Rattle.whole.specs.Whole.{kept}
 use borrow.Author.Needs.{needs}
 use Rattle.lines.proofs.descriptor.Statement.{statement}
 use Rattle.lines.proofs.descriptor.Tie as tie
-use Rattle.lines.proofs.descriptor.Reads as reads
-use Rattle.lines.proofs.descriptor.Lts as lts
-use Rattle.whole.proofs.count.Reads as count-reads
 
--- src/lib.rt:46:9
 count-requires : tie.Need-count-requires
 count-requires c κs = search needs
 
--- src/lib.rt:42:1
 returns : tie.Need-returns
 returns c =
     let t = c .before .before .args .t in

@@ -1,65 +1,50 @@
-use mathlib.Core.Path.{_≡_, refl, sym, ap, _∙_}
-use Prim.Native.Nat.{_+_, _-_, _≤_}
+-- `lines::finish` meets its contract. Assumes nothing.
+use mathlib.Core.Path.{sym}
 use native.Mathlib.Omega.{arith}
-use lib.ListN.{length, take}
 use lib.Seq.{length-take-le}
 use Rattle.lines.specs.Reading.{finished-none, finished-line, ended-owes, empty-owes}
 use borrow.Author.Needs.{needs}
 use Rattle.lines.proofs.finish.Statement.{statement}
 use Rattle.lines.proofs.finish.Tie as tie
-use Rattle.lines.proofs.finish.Reads as reads
-use Rattle.lines.proofs.finish.Lts as lts
-use Rattle.lines.proofs.judge.Reads as judge-reads
 
--- src/lib.rt:347:9
 returns : tie.Need-returns
 returns c =
     let s = c .before .before .before in
     let a = s .args in
     finished-none (a .r) (a .cells .now) (a .carry .now) (a .out .now) (ended-owes (a .r) (a .cells .now) (a .carry .now) (c .if1 .taken)) (omega (arith, s .pre .2))
 
--- src/lib.rt:351:9
 returns-2 : tie.Need-returns-2
 returns-2 c =
     let s = c .before .before .before .before in
     let a = s .args in
     finished-none (a .r) (a .cells .now) (a .carry .now) (a .out .now) (empty-owes (a .r) (a .cells .now) (a .carry .now) (c .before .if1 .left) (c .if2 .taken)) (omega (arith, s .pre .2))
 
--- src/lib.rt:353:11
 slice-reshare-prefix-judge : tie.Need-slice-reshare-prefix-judge
 slice-reshare-prefix-judge c = search needs
 
--- src/lib.rt:353:11
 slice-aggregate-judge : tie.Need-slice-aggregate-judge
 slice-aggregate-judge c =
     let s = c .before .before .before .before .before in
     sym (length-take-le (s .args .r .carried) (s .args .carry .now) (omega (arith, s .pre .0 .carries, s .pre .1 .short)))
 
--- src/lib.rt:353:5
 judge-requires : tie.Need-judge-requires
 judge-requires c κs = search needs
 
--- src/lib.rt:342:1
 same-length : tie.Need-same-length
 same-length c = search needs
 
--- src/lib.rt:342:1
 same-length-2 : tie.Need-same-length-2
 same-length-2 c = search needs
 
--- src/lib.rt:342:1
 same-length-3 : tie.Need-same-length-3
 same-length-3 c = search needs
 
--- src/lib.rt:342:1
 same-length-4 : tie.Need-same-length-4
 same-length-4 c = search needs
 
--- src/lib.rt:342:1
 same-length-5 : tie.Need-same-length-5
 same-length-5 c = search needs
 
--- src/lib.rt:342:1
 returns-3 : tie.Need-returns-3
 returns-3 c =
     let s = c .before .before .before .before .before .before .before .before .before .before .before .before .before .before .before in

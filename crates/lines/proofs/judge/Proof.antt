@@ -1,54 +1,40 @@
-use mathlib.Core.Path.{_≡_, refl, sym, ap, ap₂, _∙_, subst}
+-- `lines::judge` meets its contract. Assumes nothing.
+use mathlib.Core.Path.{subst}
 use native.Mathlib.Omega.{arith}
-use lib.ListN.{length}
 use Rattle.paper.specs.Lines.{lineOf}
 use Rattle.lines.specs.States.{Stepped}
 use Rattle.lines.specs.Reading.{judged-next, judged-fault}
 use borrow.Author.Needs.{needs}
 use Rattle.lines.proofs.judge.Statement.{statement}
 use Rattle.lines.proofs.judge.Tie as tie
-use Rattle.lines.proofs.judge.Reads as reads
-use Rattle.lines.proofs.judge.Lts as lts
-use Rattle.lines.proofs.step.Reads as step-reads
-use Rattle.texts.proofs.put_fault.Reads as put-fault-reads
 
--- src/lib.rt:228:9
 step-requires : tie.Need-step-requires
 step-requires c κs = search needs
 
--- src/lib.rt:230:23
 enum-known-done : tie.Need-enum-known-done
 enum-known-done c = search needs
 
--- src/lib.rt:232:19
 add-t25 : tie.Need-add-t25
 add-t25 c = search needs
 
--- src/lib.rt:238:24
 enum-known-done-2 : tie.Need-enum-known-done-2
 enum-known-done-2 c = search needs
 
--- src/lib.rt:239:17
 put-fault-requires : tie.Need-put-fault-requires
 put-fault-requires c κs = search needs
 
--- src/lib.rt:221:1
 same-length : tie.Need-same-length
 same-length c = search needs
 
--- src/lib.rt:221:1
 same-length-2 : tie.Need-same-length-2
 same-length-2 c = search needs
 
--- src/lib.rt:221:1
 same-length-3 : tie.Need-same-length-3
 same-length-3 c = search needs
 
--- src/lib.rt:221:1
 same-length-4 : tie.Need-same-length-4
 same-length-4 c = search needs
 
--- src/lib.rt:221:1
 returns : tie.Need-returns
 returns c =
     let a = c .before .before .before .before .before .before .before .before .before .before .before .before .before .before .before .args in
@@ -57,23 +43,18 @@ returns c =
     judged-next (lineOf (a .bytes .now)) (a .r) (a .next) (a .cells .now) (a .out .now) (t .last .1 .1 .0) (t .last .1 .1 .1 .0) (t .last .1 .1 .1 .1 .1 .0) (x .0 .0) (x .0 .1 .0)
     (subst (λ o. Stepped (a .r .state) (lineOf (a .bytes .now)) (a .cells .now) (a .out .now) (a .r .out) o (t .last .1 .1 .0) (t .last .1 .1 .1 .0) (t .last .1 .1 .1 .1 .1 .0)) (x .1) (t .ensures))
 
--- src/lib.rt:221:1
 same-length-5 : tie.Need-same-length-5
 same-length-5 c = search needs
 
--- src/lib.rt:221:1
 same-length-6 : tie.Need-same-length-6
 same-length-6 c = search needs
 
--- src/lib.rt:221:1
 same-length-7 : tie.Need-same-length-7
 same-length-7 c = search needs
 
--- src/lib.rt:221:1
 same-length-8 : tie.Need-same-length-8
 same-length-8 c = search needs
 
--- src/lib.rt:221:1
 returns-2 : tie.Need-returns-2
 returns-2 c =
     let s = c .before .before .before .before .before .before .before .before .before .before .before .before .before .before .before .before .before .before .before in

@@ -1,3 +1,4 @@
+-- `lines::opened` meets its contract. Assumes nothing.
 use mathlib.Core.Path.{_≡_, sym, ap, ap₂, _∙_, subst}
 use mir.Syntax.{w64}
 use mir.Val.{toZ, ofZ}
@@ -11,10 +12,6 @@ use Rattle.lines.proofs.Tags.{no-table}
 use borrow.Author.Needs.{needs}
 use Rattle.lines.proofs.opened.Statement.{statement}
 use Rattle.lines.proofs.opened.Tie as tie
-use Rattle.lines.proofs.opened.Reads as reads
-use Rattle.lines.proofs.opened.Lts as lts
-use Rattle.table.proofs.bad_kind.Reads as bad-kind-reads
-use Rattle.table.proofs.bad_lower.Reads as bad-lower-reads
 
 -- a T line, as the code holds its numbers
 read-table : (c : tie.After-known-told) → shownLine (c .before .before .before .args .line) ≡ table (toZ w64 (ofZ w64 (c .before .line .given .0 .0))) (toZ w64 (ofZ w64 (c .before .line .given .0 .1 .0)))
@@ -23,35 +20,28 @@ read-table c =
     let i = c .known-told .given in
     ap shownLine (x .1) ∙ ap₂ table (sym (kept w64 (x .0 .0) (i .0 .1))) (sym (kept w64 (x .0 .1 .0) (i .1 .0 .1)))
 
--- src/lib.rt:57:21
 enum-known-line : tie.Need-enum-known-line
 enum-known-line c = search needs
 
--- src/lib.rt:58:9
 returns : tie.Need-returns
 returns c = no-table (λ l. Opened l (c .before .args .at) (Fault 0)) (c .before .args .line) (c .match .keys2) (S-first (c .before .args .at)) (W-first (c .before .args .at)) (other-first (c .before .args .at))
 
--- src/lib.rt:68:8
 bad-kind-requires : tie.Need-bad-kind-requires
 bad-kind-requires c κs = search needs
 
--- src/lib.rt:69:9
 returns-2 : tie.Need-returns-2
 returns-2 c =
     let k = c .before .before in
     subst (λ l. Opened l (k .before .before .before .args .at) (Fault 1)) (sym (read-table k)) (T-kind (k .before .before .before .args .at) _ _ (sym (c .before .bad-kind .ensures) ∙ c .if1 .taken))
 
--- src/lib.rt:71:8
 bad-lower-requires : tie.Need-bad-lower-requires
 bad-lower-requires c κs = search needs
 
--- src/lib.rt:72:9
 returns-3 : tie.Need-returns-3
 returns-3 c =
     let k = c .before .before .before .before in
     subst (λ l. Opened l (k .before .before .before .args .at) (Fault 2)) (sym (read-table k)) (T-lower (k .before .before .before .args .at) _ _ (sym (c .before .before .before .bad-kind .ensures) ∙ c .before .before .if1 .left) (sym (c .before .bad-lower .ensures) ∙ c .if2 .taken))
 
--- src/lib.rt:54:1
 returns-4 : tie.Need-returns-4
 returns-4 c =
     let k = c .before .before .before .before in

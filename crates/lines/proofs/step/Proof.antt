@@ -1,56 +1,41 @@
-use mathlib.Core.Path.{_≡_, refl, sym, ap, ap₂, _∙_, subst}
+-- `lines::step` meets its contract. Assumes nothing.
+use mathlib.Core.Path.{sym, subst}
 use native.Mathlib.Omega.{arith}
-use lib.ListN.{length}
 use Rattle.fields.specs.Forms.{shownLine}
 use Rattle.paper.specs.Lines.{lineOf}
-use Rattle.lines.specs.declared.Outcome.the-variants.{Fault, Next}
 use Rattle.lines.specs.declared.State.the-variants.{Start, Filling, Asking}
 use Rattle.lines.specs.States.{Kept, Stepped}
 use Rattle.lines.specs.Steps.{opened-step, asked-step}
 use borrow.Author.Needs.{needs}
 use Rattle.lines.proofs.step.Statement.{statement}
 use Rattle.lines.proofs.step.Tie as tie
-use Rattle.lines.proofs.step.Reads as reads
-use Rattle.lines.proofs.step.Lts as lts
-use Rattle.fields.proofs.line_of.Reads as line-of-reads
-use Rattle.lines.proofs.asked.Reads as asked-reads
-use Rattle.lines.proofs.filled.Reads as filled-reads
-use Rattle.lines.proofs.opened.Reads as opened-reads
 
--- src/lib.rt:184:9
 line-of-requires : tie.Need-line-of-requires
 line-of-requires c κs = search needs
 
--- src/lib.rt:186:25
 enum-told : tie.Need-enum-told
 enum-told c = search needs
 
--- src/lib.rt:186:25
 opened-requires : tie.Need-opened-requires
 opened-requires c κs = search needs
 
--- src/lib.rt:187:24
 enum-known-s : tie.Need-enum-known-s
 enum-known-s c = search needs
 
--- src/lib.rt:187:30
 filled-requires : tie.Need-filled-requires
 filled-requires c κs =
     let s = c .before .before .before .before .before .before .before .before .before .before in
     (s .pre .0, subst (λ x. Kept x (s .args .cells .now) (s .args .index .now)) (c .before .before .before .before .before .s .given .1) (s .pre .1))
 
--- src/lib.rt:188:23
 enum-known-s-2 : tie.Need-enum-known-s-2
 enum-known-s-2 c = search needs
 
--- src/lib.rt:188:29
 asked-requires : tie.Need-asked-requires
 asked-requires c κs =
     let s = c .before .before .before .before .before .before .before .before .before in
     let r = subst (λ x. Kept x (s .args .cells .now) (s .args .index .now)) (c .before .before .before .before .s2 .given .1) (s .pre .1) in
     (r .fits .size, s .pre .0 .words, s .pre .0 .numbered, s .pre .0 .room)
 
--- src/lib.rt:180:1
 returns : tie.Need-returns
 returns c =
     let s = c .before .before .before .before .before .before in
@@ -59,23 +44,18 @@ returns c =
     subst (λ x. Stepped x (lineOf (a .bytes .now)) (a .cells .now) (a .out .now) (a .at) (c .opened .result) (a .cells .now) (a .index .now) (a .out .now)) (sym (c .before .enum-told .given .1))
     (subst (λ l. Stepped Start l (a .cells .now) (a .out .now) (a .at) (c .opened .result) (a .cells .now) (a .index .now) (a .out .now)) (c .before .before .before .line-of .ensures) o)
 
--- src/lib.rt:180:1
 same-length : tie.Need-same-length
 same-length c = search needs
 
--- src/lib.rt:180:1
 same-length-2 : tie.Need-same-length-2
 same-length-2 c = search needs
 
--- src/lib.rt:180:1
 same-length-3 : tie.Need-same-length-3
 same-length-3 c = search needs
 
--- src/lib.rt:180:1
 same-length-4 : tie.Need-same-length-4
 same-length-4 c = search needs
 
--- src/lib.rt:180:1
 returns-2 : tie.Need-returns-2
 returns-2 c =
     let a = c .before .before .before .before .before .before .before .before .before .before .before .before .before .before .before .before .args in
@@ -84,19 +64,15 @@ returns-2 c =
     subst (λ y. Stepped y (lineOf (a .bytes .now)) (a .cells .now) (a .out .now) (a .at) (f .result) (f .last .1 .1 .0) (f .last .1 .1 .1 .0) (f .last .1 .1 .1 .1 .1 .0)) (sym (x .1))
     (subst (λ l. Stepped (Filling (x .0 .0)) l (a .cells .now) (a .out .now) (a .at) (f .result) (f .last .1 .1 .0) (f .last .1 .1 .1 .0) (f .last .1 .1 .1 .1 .1 .0)) (c .before .before .before .before .before .before .before .before .before .before .before .before .before .line-of .ensures) (f .ensures))
 
--- src/lib.rt:180:1
 same-length-5 : tie.Need-same-length-5
 same-length-5 c = search needs
 
--- src/lib.rt:180:1
 same-length-6 : tie.Need-same-length-6
 same-length-6 c = search needs
 
--- src/lib.rt:180:1
 same-length-7 : tie.Need-same-length-7
 same-length-7 c = search needs
 
--- src/lib.rt:180:1
 returns-3 : tie.Need-returns-3
 returns-3 c =
     let s = c .before .before .before .before .before .before .before .before .before .before .before .before .before in

@@ -1,30 +1,23 @@
-use mathlib.Core.Path.{_≡_, sym, _∙_}
+-- `texts::below` meets its contract. Assumes nothing.
 use native.Mathlib.Omega.{arith}
 use lib.IntN.{pos}
 use mir.Syntax.{w64}
 use mir.ValLaws.{toZ-ofZ}
-use borrow.Author.Needs.{needs}
-use Rattle.whole.specs.Whole.{whole}
 use Rattle.texts.specs.Signs.{Below, below-is}
 use Rattle.texts.proofs.below.Statement.{statement}
 use Rattle.texts.proofs.below.Tie as tie
-use Rattle.texts.proofs.below.Reads as reads
-use Rattle.texts.proofs.below.Lts as lts
 
 far : (c : tie.Start) → Below (c .args .z)
 far c = below-is (c .args .z) (c .pre) (c .fits .z)
 
--- src/lib.rt:59:6
 sub-result : tie.Need-sub-result
 sub-result c = rw (toZ-ofZ w64 (c .args .z) (c .fits .z), far c .less) (record { sfits = far c .small })
 
--- src/lib.rt:59:5
 cast-result : tie.Need-cast-result
 cast-result c =
     let h = far c .small in
     rw (toZ-ofZ w64 (c .args .z) (c .fits .z), far c .less, toZ-ofZ w64 (pos (far c .m)) (record { sfits = h })) (tt, record { fits = omega arith })
 
--- src/lib.rt:55:1
 returns : tie.Need-returns
 returns c =
     let h = far c .small in

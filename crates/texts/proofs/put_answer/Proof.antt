@@ -1,24 +1,19 @@
-use mathlib.Core.Path.{_≡_, refl, sym, ap, ap₂, _∙_, subst}
+-- `texts::put_answer` meets its contract. Assumes nothing.
+use mathlib.Core.Path.{_≡_, sym, ap, _∙_, subst}
 use mathlib.Core.List.{_∷_}
-use Prim.Native.Nat.{_+_, _≤_, _<_}
+use Prim.Native.Nat.{_+_, _≤_}
 use native.Mathlib.Omega.{arith}
 use lib.ListN.{length, take, set, length-set}
-use lib.IntN.{ℤ}
 use mir.Syntax.{w64}
 use mir.Val.{toZ, ofZ}
 use Rattle.lists.specs.Plain.{toNat}
-use Rattle.paper.specs.Lines.{tab, decimal, tabbed, printed}
+use Rattle.paper.specs.Lines.{tab, decimal, tabbed}
 use Rattle.whole.specs.Whole.{kept}
 use Rattle.texts.specs.Written.{Written}
 use Rattle.texts.specs.Printed.{field-le, answer-written}
 use borrow.Author.Needs.{needs}
 use Rattle.texts.proofs.put_answer.Statement.{statement}
 use Rattle.texts.proofs.put_answer.Tie as tie
-use Rattle.texts.proofs.put_answer.Reads as reads
-use Rattle.texts.proofs.put_answer.Lts as lts
-use Rattle.texts.proofs.put_field.Reads as put-field-reads
-use Rattle.texts.proofs.put_tabbed.Reads as put-tabbed-reads
-use Rattle.texts.proofs.size.Reads as size-reads
 
 count-is : (c : tie.After-struct-told) → toZ w64 (ofZ w64 (c .before .before .args .reply .count)) ≡ c .before .before .args .reply .count
 count-is c = kept w64 (c .before .before .args .reply .count) (c .struct-told .given .1 .0 .1)
@@ -43,25 +38,20 @@ second c = subst (λ z. Written (tab ∷ decimal z) (c .before .before .before .
 listed : (c : tie.After-size) → c .size .result ≡ toNat (c .before .before .before .args .reply .count)
 listed c = c .size .ensures ∙ ap toNat (count-is (c .before))
 
--- src/lib.rt:135:9
 size-requires : tie.Need-size-requires
 size-requires c κs = search needs
 
--- src/lib.rt:136:5
 slice-write-out : tie.Need-slice-write-out
 slice-write-out c = search needs
 
--- src/lib.rt:137:28
 add-put-field : tie.Need-add-put-field
 add-put-field c = search needs
 
--- src/lib.rt:137:9
 put-field-requires : tie.Need-put-field-requires
 put-field-requires c κs =
     let s = c .before .before .before .before .before in
     subst (λ z. s .args .at + 1 + length (tab ∷ decimal z) ≤ length (set (s .args .out .now) (s .args .at) 65)) (sym (count-is (c .before .before .before))) (omega (arith, s .pre, counts-short (c .before .before .before), length-set (s .args .out .now) (s .args .at) 65))
 
--- src/lib.rt:138:9
 put-field-requires-2 : tie.Need-put-field-requires-2
 put-field-requires-2 c κs =
     let s = c .before .before .before .before .before .before .before .before .before .before in
@@ -69,7 +59,6 @@ put-field-requires-2 c κs =
     subst (λ z. a .put-field .result + length (tab ∷ decimal z) ≤ length (a .put-field .last .0)) (sym (visits-is (c .before .before .before .before .before .before .before .before)))
     (omega (arith, s .pre, counts-short (c .before .before .before .before .before .before .before .before), visits-short (c .before .before .before .before .before .before .before .before), first a .ends, a .put-field .kept .0, length-set (s .args .out .now) (s .args .at) 65))
 
--- src/lib.rt:139:5
 put-tabbed-requires : tie.Need-put-tabbed-requires
 put-tabbed-requires c κs =
     let s = c .before .before .before .before .before .before .before .before .before .before .before .before .before .before in
@@ -77,13 +66,11 @@ put-tabbed-requires c κs =
     let b = c .before .before .before in
     omega (arith, s .pre, counts-short (c .before .before .before .before .before .before .before .before .before .before .before .before), visits-short (c .before .before .before .before .before .before .before .before .before .before .before .before), first a .ends, second b .ends, a .put-field .kept .0, b .put-field2 .kept .0, length-set (s .args .out .now) (s .args .at) 65)
 
--- src/lib.rt:131:1
 same-length : tie.Need-same-length
 same-length c =
     let s = c .before .before .before .before .before .before .before .before .before .before .before .before .before .before .before .before .before in
     c .before .before .put-tabbed .kept .0 ∙ c .before .before .before .before .before .before .put-field2 .kept .0 ∙ c .before .before .before .before .before .before .before .before .before .before .before .put-field .kept .0 ∙ length-set (s .args .out .now) (s .args .at) 65
 
--- src/lib.rt:131:1
 returns : tie.Need-returns
 returns c =
     let s = c .before .before .before .before .before .before .before .before .before .before .before .before .before .before .before .before .before in

@@ -1,35 +1,28 @@
-use mathlib.Core.Path.{_≡_, refl, sym, ap, ap₂, _∙_, subst}
+-- `texts::put_count` meets its contract. Assumes nothing.
+use mathlib.Core.Path.{_∙_}
 use native.Mathlib.Omega.{arith}
-use lib.ListN.{length, length-set}
-use Rattle.texts.specs.Written.{Written, written-first}
+use lib.ListN.{length-set}
+use Rattle.texts.specs.Written.{written-first}
 use borrow.Author.Needs.{needs}
 use Rattle.texts.proofs.put_count.Statement.{statement}
 use Rattle.texts.proofs.put_count.Tie as tie
-use Rattle.texts.proofs.put_count.Reads as reads
-use Rattle.texts.proofs.put_count.Lts as lts
-use Rattle.texts.proofs.put_digits.Reads as put-digits-reads
 
--- src/lib.rt:90:5
 slice-write-out : tie.Need-slice-write-out
 slice-write-out c = search needs
 
--- src/lib.rt:91:21
 add-put-digits : tie.Need-add-put-digits
 add-put-digits c = search needs
 
--- src/lib.rt:91:5
 put-digits-requires : tie.Need-put-digits-requires
 put-digits-requires c κs =
     let s = c .before .before in
     omega (arith, s .pre, length-set (s .args .out .now) (s .args .at) 9)
 
--- src/lib.rt:86:1
 same-length : tie.Need-same-length
 same-length c =
     let s = c .before .before .before .before .before in
     c .before .before .put-digits .kept .0 ∙ length-set (s .args .out .now) (s .args .at) 9
 
--- src/lib.rt:86:1
 returns : tie.Need-returns
 returns c = written-first (omega (arith, c .before .before .before .before .before .pre)) (c .before .before .put-digits .ensures)
 

@@ -1,6 +1,6 @@
-use mathlib.Core.Path.{_≡_, refl, sym, ap, ap₂, _∙_}
-use mathlib.Core.List.{_++_, [], _∷_}
-use Prim.Native.Nat.{_+_, _/_, _%_, _-_, _≤_, _<_}
+-- `texts::put_digits` meets its contract. Assumes nothing.
+use mathlib.Core.Path.{_≡_, sym, ap, ap₂, _∙_}
+use Prim.Native.Nat.{_+_, _/_, _%_, _-_, _≤_}
 use native.Mathlib.Omega.{arith}
 use lib.ListN.{length, set, length-set}
 use Rattle.lists.specs.Parts.{put, put-one}
@@ -9,10 +9,6 @@ use Rattle.texts.specs.Written.{put-last}
 use borrow.Author.Needs.{needs}
 use Rattle.texts.proofs.put_digits.Statement.{statement}
 use Rattle.texts.proofs.put_digits.Tie as tie
-use Rattle.texts.proofs.put_digits.Reads as reads
-use Rattle.texts.proofs.put_digits.Lts as lts
-use Rattle.texts.proofs.digit.Reads as digit-reads
-use Rattle.texts.proofs.width.Reads as width-reads
 
 abbrev Inv-loop : tie.InvT-loop
 Inv-loop out₀ at n end i₀ v₀ out i v =
@@ -21,35 +17,27 @@ Inv-loop out₀ at n end i₀ v₀ out i v =
 abbrev μ-loop : tie.MeasureT-loop
 μ-loop out₀ at n end i₀ v₀ out i v = v
 
--- src/lib.rt:42:20
 width-requires : tie.Need-width-requires Inv-loop μ-loop
 width-requires c κs = search needs
 
--- src/lib.rt:42:15
 add-end : tie.Need-add-end Inv-loop μ-loop
 add-end c = search needs
 
--- src/lib.rt:45:5
 loop-holds : tie.Need-loop-holds Inv-loop μ-loop
 loop-holds c = search needs
 
--- src/lib.rt:46:9
 sub-i : tie.Need-sub-i Inv-loop μ-loop
 sub-i c = omega (arith, count-more (c .before .loop .v) (c .loop-test .taken))
 
--- src/lib.rt:47:18
 digit-requires : tie.Need-digit-requires Inv-loop μ-loop
 digit-requires c κs = search needs
 
--- src/lib.rt:47:9
 slice-write-out : tie.Need-slice-write-out Inv-loop μ-loop
 slice-write-out c = omega (arith, count-more (c .before .before .loop .v) (c .before .loop-test .taken))
 
--- src/lib.rt:45:5
 loop-less : tie.Need-loop-less Inv-loop μ-loop
 loop-less c = search needs
 
--- src/lib.rt:45:5
 loop-again : tie.Need-loop-again Inv-loop μ-loop
 loop-again c =
     let a = c .before .before .before .before .before .args in
@@ -68,19 +56,15 @@ loop-again c =
           ∙ l .inv .4,
     )
 
--- src/lib.rt:50:15
 digit-requires-2 : tie.Need-digit-requires-2 Inv-loop μ-loop
 digit-requires-2 c κs = search needs
 
--- src/lib.rt:50:5
 slice-write-out-2 : tie.Need-slice-write-out-2 Inv-loop μ-loop
 slice-write-out-2 c = omega (arith, count-one (c .before .before .loop .v) (c .before .loop-test .left))
 
--- src/lib.rt:38:1
 same-length : tie.Need-same-length Inv-loop μ-loop
 same-length c = search needs
 
--- src/lib.rt:38:1
 returns : tie.Need-returns Inv-loop μ-loop
 returns c =
     let a = c .before .before .before .before .before .args in

@@ -1,16 +1,13 @@
-use mathlib.Core.Path.{_≡_, refl, sym, ap, ap₂, _∙_, subst}
-use mathlib.Core.List.{_∷_}
-use Prim.Native.Nat.{_+_, _≤_, _<_}
+-- `texts::put_fault` meets its contract. Assumes nothing.
+use mathlib.Core.Path.{_∙_}
+use Prim.Native.Nat.{_<_}
 use native.Mathlib.Omega.{arith}
-use lib.ListN.{length, take, set, length-set}
-use Rattle.texts.specs.Digits.{digitsOf, count-le}
+use lib.ListN.{length, length-set}
+use Rattle.texts.specs.Digits.{count-le}
 use Rattle.texts.specs.Printed.{fault-written}
 use borrow.Author.Needs.{needs}
 use Rattle.texts.proofs.put_fault.Statement.{statement}
 use Rattle.texts.proofs.put_fault.Tie as tie
-use Rattle.texts.proofs.put_fault.Reads as reads
-use Rattle.texts.proofs.put_fault.Lts as lts
-use Rattle.texts.proofs.put_count.Reads as put-count-reads
 
 -- the line feed has a place
 room : (c : tie.After-slice-known3) → c .before .before .put-count2 .result < length (c .before .before .put-count2 .last .0)
@@ -20,42 +17,34 @@ room c =
     let b = c .before .before .put-count2 in
     omega (arith, s .pre, b .kept .0, a .kept .0, a .ensures .ends, b .ensures .ends, length-set (s .args .out .now) (s .args .at) 82, count-le 19 (s .args .number) (omega (arith, s .fits .number)), count-le 19 (s .args .line) (omega (arith, s .fits .line)))
 
--- src/lib.rt:147:5
 slice-write-out : tie.Need-slice-write-out
 slice-write-out c = search needs
 
--- src/lib.rt:148:28
 add-put-count : tie.Need-add-put-count
 add-put-count c = search needs
 
--- src/lib.rt:148:9
 put-count-requires : tie.Need-put-count-requires
 put-count-requires c κs =
     let s = c .before .before in
     omega (arith, s .pre, length-set (s .args .out .now) (s .args .at) 82, count-le 19 (s .args .number) (omega (arith, s .fits .number)))
 
--- src/lib.rt:149:9
 put-count-requires-2 : tie.Need-put-count-requires-2
 put-count-requires-2 c κs =
     let s = c .before .before .before .before .before .before in
     let a = c .before .before .before .put-count in
     omega (arith, s .pre, a .kept .0, a .ensures .ends, length-set (s .args .out .now) (s .args .at) 82, count-le 19 (s .args .number) (omega (arith, s .fits .number)), count-le 19 (s .args .line) (omega (arith, s .fits .line)))
 
--- src/lib.rt:150:5
 slice-write-out-2 : tie.Need-slice-write-out-2
 slice-write-out-2 c = room c
 
--- src/lib.rt:151:5
 add-result : tie.Need-add-result
 add-result c = omega (arith, room c, c .before .before .put-count2 .kept .0, c .before .before .before .before .before .before .put-count .kept .0, length-set (c .before .before .before .before .before .before .before .before .before .args .out .now) (c .before .before .before .before .before .before .before .before .before .args .at) 82, c .before .before .before .before .before .before .before .before .before .good .0 .0)
 
--- src/lib.rt:143:1
 same-length : tie.Need-same-length
 same-length c =
     let s = c .before .before .before .before .before .before .before .before .before in
     length-set (c .before .before .put-count2 .last .0) (c .before .before .put-count2 .result) 10 ∙ c .before .before .put-count2 .kept .0 ∙ c .before .before .before .before .before .before .put-count .kept .0 ∙ length-set (s .args .out .now) (s .args .at) 82
 
--- src/lib.rt:143:1
 returns : tie.Need-returns
 returns c =
     let s = c .before .before .before .before .before .before .before .before .before in

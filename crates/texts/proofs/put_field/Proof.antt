@@ -1,39 +1,30 @@
-use mathlib.Core.Path.{_≡_, refl, sym, ap, ap₂, _∙_, subst}
+-- `texts::put_field` meets its contract. Assumes nothing.
+use mathlib.Core.Path.{sym, _∙_}
 use native.Mathlib.Omega.{arith}
-use lib.ListN.{length, length-set}
-use Rattle.texts.specs.Written.{Written, written-first}
-use mathlib.Core.List.{_∷_}
+use lib.ListN.{length-set}
+use Rattle.texts.specs.Written.{written-first}
 use mir.Syntax.{w64}
 use mir.ValLaws.{toZ-ofZ}
-use Rattle.paper.specs.Lines.{tab, decimal}
 use borrow.Author.Needs.{needs}
 use Rattle.texts.proofs.put_field.Statement.{statement}
 use Rattle.texts.proofs.put_field.Tie as tie
-use Rattle.texts.proofs.put_field.Reads as reads
-use Rattle.texts.proofs.put_field.Lts as lts
-use Rattle.texts.proofs.put_number.Reads as put-number-reads
 
--- src/lib.rt:81:5
 slice-write-out : tie.Need-slice-write-out
 slice-write-out c = search needs
 
--- src/lib.rt:82:21
 add-put-number : tie.Need-add-put-number
 add-put-number c = search needs
 
--- src/lib.rt:82:5
 put-number-requires : tie.Need-put-number-requires
 put-number-requires c κs =
     let s = c .before .before in
     rw (toZ-ofZ w64 (s .args .z) (s .fits .z)) (omega (arith, s .pre, length-set (s .args .out .now) (s .args .at) 9))
 
--- src/lib.rt:77:1
 same-length : tie.Need-same-length
 same-length c =
     let s = c .before .before .before .before .before in
     c .before .before .put-number .kept .0 ∙ length-set (s .args .out .now) (s .args .at) 9
 
--- src/lib.rt:77:1
 returns : tie.Need-returns
 returns c =
     let s = c .before .before .before .before .before in

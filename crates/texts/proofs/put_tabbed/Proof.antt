@@ -1,10 +1,10 @@
-use mathlib.Core.Path.{_≡_, refl, sym, ap, ap₂, _∙_, subst}
+-- `texts::put_tabbed` meets its contract. Assumes nothing.
+use mathlib.Core.Path.{_≡_, refl, sym, ap, _∙_, subst}
 use mathlib.Core.List.{_∷_}
-use Prim.Native.Nat.{_+_, _-_, _*_, _≤_, _<_, min}
+use Prim.Native.Nat.{_+_, _-_, _*_, _≤_, _<_}
 use native.Mathlib.Omega.{arith}
 use lib.IntN.{pos}
 use lib.ListN.{length, take, getD, set, length-set}
-use lib.Seq.{length-take-le, getD-take}
 use mir.Syntax.{w64}
 use mir.Val.{toZ, ofZ}
 use mir.ValLaws.{toZ-ofZ}
@@ -15,11 +15,6 @@ use Rattle.texts.specs.Printed.{fieldsText, no-fields, fields-next, fiel
 use borrow.Author.Needs.{needs}
 use Rattle.texts.proofs.put_tabbed.Statement.{statement}
 use Rattle.texts.proofs.put_tabbed.Tie as tie
-use Rattle.texts.proofs.put_tabbed.Reads as reads
-use Rattle.texts.proofs.put_tabbed.Lts as lts
-use Rattle.texts.proofs.least.Reads as least-reads
-use Rattle.texts.proofs.put_field.Reads as put-field-reads
-use Rattle.whole.proofs.cell.Reads as cell-reads
 
 abbrev Inv-loop : tie.InvT-loop
 Inv-loop out₀ at numbers count n k₀ i₀ out k i =
@@ -36,37 +31,30 @@ value c = toZ-ofZ w64 (c .cell .result) (c .cell .ensures .1) ∙ c .cell .ensur
 short : (c : tie.After-cell Inv-loop μ-loop) → length (tab ∷ decimal (getD (c .before .before .before .before .before .args .numbers .now) (c .before .before .loop .i) (pos 0))) ≤ 21
 short c = subst (λ z. length (tab ∷ decimal z) ≤ 21) (c .cell .ensures .0) (field-le (c .cell .result) (c .cell .ensures .1 .sfits))
 
--- src/lib.rt:109:9
 least-requires : tie.Need-least-requires Inv-loop μ-loop
 least-requires c κs = search needs
 
--- src/lib.rt:112:5
 loop-holds : tie.Need-loop-holds Inv-loop μ-loop
 loop-holds c =
     let a = c .before .before .args in
     let e = c .least .ensures in
     (omega arith, omega (arith, e), refl, omega arith, record { ends = omega (arith, ap length no-fields); wrote = sym (ap (λ t. put (a .at) t (a .out .now)) no-fields ∙ put-nil (a .at) (a .out .now)) })
 
--- src/lib.rt:113:13
 cell-requires : tie.Need-cell-requires Inv-loop μ-loop
 cell-requires c κs = search needs
 
--- src/lib.rt:114:9
 put-field-requires : tie.Need-put-field-requires Inv-loop μ-loop
 put-field-requires c κs =
     let l = c .before .before .before .loop in
     let s = c .before .before .before .before .before .before in
     subst (λ z. l .k + length (tab ∷ decimal z) ≤ length (l .out)) (sym (value (c .before))) (omega (arith, short (c .before), s .pre, l .inv .1, l .inv .2, l .inv .3, c .before .before .loop-test .taken))
 
--- src/lib.rt:115:9
 add-i : tie.Need-add-i Inv-loop μ-loop
 add-i c = search needs
 
--- src/lib.rt:112:5
 loop-less : tie.Need-loop-less Inv-loop μ-loop
 loop-less c = omega arith
 
--- src/lib.rt:112:5
 loop-again : tie.Need-loop-again Inv-loop μ-loop
 loop-again c =
     let t = c .before .before .before .before in
@@ -81,19 +69,15 @@ loop-again c =
       subst (λ x. Written x (s .args .at) (s .args .out .now) (c .before .before .put-field .result) (c .before .before .put-field .last .0)) (sym (fields-next (s .args .numbers .now) (l .i) (omega (arith, h, l .inv .1))))
       (written-join (omega (arith, l .inv .4 .ends, l .inv .3, s .pre, short t, h, l .inv .1)) (l .inv .4) w))
 
--- src/lib.rt:117:5
 slice-write-out : tie.Need-slice-write-out Inv-loop μ-loop
 slice-write-out c = omega (arith, c .before .before .before .before .pre, c .before .loop .inv .0, c .before .loop .inv .1, c .before .loop .inv .2, c .before .loop .inv .3)
 
--- src/lib.rt:118:5
 add-result : tie.Need-add-result Inv-loop μ-loop
 add-result c = omega (arith, c .before .before .before .before .pre, c .before .loop .inv .0, c .before .loop .inv .1, c .before .loop .inv .3, c .before .before .before .before .good .0 .0)
 
--- src/lib.rt:105:1
 same-length : tie.Need-same-length Inv-loop μ-loop
 same-length c = length-set (c .before .loop .out) (c .before .loop .k) 10 ∙ c .before .loop .inv .2
 
--- src/lib.rt:105:1
 returns : tie.Need-returns Inv-loop μ-loop
 returns c =
     let s = c .before .before .before .before in
