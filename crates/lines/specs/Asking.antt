@@ -114,14 +114,15 @@ module _ (t : Table) (cells : List ℤ) (fit : Fits t cells) where
     pub built-done : (index : List ℤ) → length index ≡ 7684 → built cells (descriptorOf t) index ≡ (done (W (t .size)) 0, over (indexWords (firstOf t) (segmentsIn t cells)) index)
     unfolding built
     built-done index l =
-        rw
-        (fit .kind,
-        fit .lower,
-        extent-good,
-        cells-good,
-        le-ltb (length index) (W (t .size)) (omega (arith, most-words (t .size) (fit .size))),
-        accepted .coordinates,
-        accepted .straight)
+        rw (
+          fit .kind,
+          fit .lower,
+          extent-good,
+          cells-good,
+          le-ltb (length index) (W (t .size)) (omega (arith, most-words (t .size) (fit .size))),
+          accepted .coordinates,
+          accepted .straight,
+        )
         refl
 
     -- the words that a query is asked over

@@ -77,7 +77,7 @@ pub record Fed (owing : List ℕ → List ℕ) (chunk text : List ℕ) (left : L
 pub fed-join : {a b c : List ℕ → List ℕ} {x y s t : List ℕ} → Fed a x s b → Fed b y t c → Fed a (x ++ y) (s ++ t) c
 fed-join {a} {b} {c} {x} {y} {s} {t} h k = record {
   fed = λ rest.
-    ap a (append-assoc x y rest) ∙ h .fed (y ++ rest) ∙ ap (λ l. s ++ l) (k .fed rest) ∙ sym (append-assoc s t (c rest));
+      ap a (append-assoc x y rest) ∙ h .fed (y ++ rest) ∙ ap (λ l. s ++ l) (k .fed rest) ∙ sym (append-assoc s t (c rest));
 }
 
 -- the program, from the owing of its start

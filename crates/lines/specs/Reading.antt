@@ -119,11 +119,11 @@ module _ (r : Reader) (chunk : List ℕ) (cells index : List ℤ) (carry : List 
   turned-line inside {out} {x} {cellsAfter} {indexAfter} {carryAfter} {outAfter} j = record {
     text = j .text;
     fed = λ rest.
-      due-split rest
-      ∙ ap (λ l. owed (stateOf (r .state) cells) (r .line) (bytes ++ (l ++ rest))) (drop-cons chunk e 0 inside ∙ ap (λ k. getD chunk e 0 ∷ drop k chunk) (sym (add-one e)))
-      ∙ line-cut bytes-clear (getD chunk e 0) (drop (e + 1) chunk ++ rest) (ends .stops inside) (stateOf (r .state) cells) (r .line)
-      ∙ j .prints (λ s. owed s (r .line + 1) (drop (e + 1) chunk ++ rest))
-      ∙ ap (λ l. j .text ++ l) (rests rest (x .ended) (j .next .3));
+        due-split rest
+        ∙ ap (λ l. owed (stateOf (r .state) cells) (r .line) (bytes ++ (l ++ rest))) (drop-cons chunk e 0 inside ∙ ap (λ k. getD chunk e 0 ∷ drop k chunk) (sym (add-one e)))
+        ∙ line-cut bytes-clear (getD chunk e 0) (drop (e + 1) chunk ++ rest) (ends .stops inside) (stateOf (r .state) cells) (r .line)
+        ∙ j .prints (λ s. owed s (r .line + 1) (drop (e + 1) chunk ++ rest))
+        ∙ ap (λ l. j .text ++ l) (rests rest (x .ended) (j .next .3));
     wrote = j .wrote;
     within = j .within;
     sound = record {
@@ -204,11 +204,11 @@ pub finished-line : (r : Reader) (cells index : List ℤ) (carry out : List ℕ)
 finished-line r cells index carry out e s l {x = x} {cellsAfter = cellsAfter} j = record {
   text = j .text;
   all =
-    ap₂ (λ b t. cond b [] (owed (stateOf (r .state) cells) (r .line) t)) e (append-nil (take (r .carried) carry))
-    ∙ line-last (take (r .carried) carry) (s .clear) l (stateOf (r .state) cells) (r .line)
-    ∙ j .prints (λ s′. [])
-    ∙ ap (λ t. j .text ++ t) (none (x .ended))
-    ∙ append-nil (j .text);
+      ap₂ (λ b t. cond b [] (owed (stateOf (r .state) cells) (r .line) t)) e (append-nil (take (r .carried) carry))
+      ∙ line-last (take (r .carried) carry) (s .clear) l (stateOf (r .state) cells) (r .line)
+      ∙ j .prints (λ s′. [])
+      ∙ ap (λ t. j .text ++ t) (none (x .ended))
+      ∙ append-nil (j .text);
   wrote = j .wrote;
   within = j .within;
 }
@@ -266,9 +266,9 @@ module _ {cells index : List ℤ} {carry : List ℕ} where
 pub chunk-fed : {r x : Reader} {chunk : List ℕ} {cells cellsAfter indexAfter : List ℤ} {carry carryAfter out outAfter : List ℕ} (t : Turned r chunk cells carry out x cellsAfter indexAfter carryAfter outAfter) → r .at ≡ 0 → length chunk ≤ x .at → Fed (dueOf r cells carry) chunk (t .text) (dueOf x cellsAfter carryAfter)
 chunk-fed {r} {x} {chunk} {cells} {cellsAfter} {indexAfter} {carry} {carryAfter} t z e = record {
   fed = λ rest.
-    ap (λ k. dueOf r cells carry (drop k chunk ++ rest)) (sym z)
-    ∙ t .fed rest
-    ∙ ap (λ l. t .text ++ dueOf x cellsAfter carryAfter (l ++ rest)) (drop-of-length-le chunk e);
+      ap (λ k. dueOf r cells carry (drop k chunk ++ rest)) (sym z)
+      ∙ t .fed rest
+      ∙ ap (λ l. t .text ++ dueOf x cellsAfter carryAfter (l ++ rest)) (drop-of-length-le chunk e);
 }
 
 pub end-is-program : (cells : List ℤ) (carry : List ℕ) {text printed last : List ℕ} {left : List ℕ → List ℕ} → Fed (dueOf started cells carry) text printed left → left [] ≡ last → program text ≡ printed ++ last

@@ -132,7 +132,14 @@ fn added(t: Table, s: Segment, cells: &mut [i32], at: usize) -> Outcome
 }
 
 // The A line of a window over an index that is built.
-fn answer(t: Table, w: Window, index: &[i32], numbers: &mut [i32], out: &mut [u8], at: usize) -> usize
+fn answer(
+    t: Table,
+    w: Window,
+    index: &[i32],
+    numbers: &mut [i32],
+    out: &mut [u8],
+    at: usize,
+) -> usize
     requires { ⌜ (t .size ≤ 256) × (length (now index) ≡ 7684) × (length (now numbers) ≡ 256) × (at + 5420 ≤ length (now out)) ⌝ }
     ensures within { λ r. ⌜ r ≤ length (now (out .entry)) ⌝ }
     ensures { λ r. ⌜ Written (answerOver t w (now (index .entry))) at (now (out .entry)) r (now (out .exit)) ⌝ }
@@ -144,7 +151,14 @@ fn answer(t: Table, w: Window, index: &[i32], numbers: &mut [i32], out: &mut [u8
 }
 
 // A line after the first W line.
-fn asked(line: Line, t: Table, index: &[i32], numbers: &mut [i32], out: &mut [u8], at: usize) -> Outcome
+fn asked(
+    line: Line,
+    t: Table,
+    index: &[i32],
+    numbers: &mut [i32],
+    out: &mut [u8],
+    at: usize,
+) -> Outcome
     requires { ⌜ (t .size ≤ 256) × (length (now index) ≡ 7684) × (length (now numbers) ≡ 256) × (at + 5420 ≤ length (now out)) ⌝ }
     ensures { λ r. ⌜ Asked t (shownLine line) (now (index .entry)) (now (out .entry)) at r (now (out .exit)) ⌝ }
 {
@@ -159,7 +173,15 @@ fn asked(line: Line, t: Table, index: &[i32], numbers: &mut [i32], out: &mut [u8
 }
 
 // A line after the T line, before the first W line. That one has the index built: no S line can follow it.
-fn filled(line: Line, t: Table, cells: &mut [i32], index: &mut [i32], numbers: &mut [i32], out: &mut [u8], at: usize) -> Outcome
+fn filled(
+    line: Line,
+    t: Table,
+    cells: &mut [i32],
+    index: &mut [i32],
+    numbers: &mut [i32],
+    out: &mut [u8],
+    at: usize,
+) -> Outcome
     requires { ⌜ Lent (now cells) (now index) (now numbers) (now out) at × Fits t (now cells) ⌝ }
     ensures { λ r. ⌜ Stepped (Filling t) (shownLine line) (now (cells .entry)) (now (out .entry)) at r (now (cells .exit)) (now (index .exit)) (now (out .exit)) ⌝ }
 {
@@ -178,7 +200,15 @@ fn filled(line: Line, t: Table, cells: &mut [i32], index: &mut [i32], numbers: &
 }
 
 // One line, judged.
-fn step(bytes: &[u8], s: State, cells: &mut [i32], index: &mut [i32], numbers: &mut [i32], out: &mut [u8], at: usize) -> Outcome
+fn step(
+    bytes: &[u8],
+    s: State,
+    cells: &mut [i32],
+    index: &mut [i32],
+    numbers: &mut [i32],
+    out: &mut [u8],
+    at: usize,
+) -> Outcome
     requires { ⌜ Lent (now cells) (now index) (now numbers) (now out) at × Kept s (now cells) (now index) ⌝ }
     ensures { λ r. ⌜ Stepped s (lineOf (now (bytes .entry))) (now (cells .entry)) (now (out .entry)) at r (now (cells .exit)) (now (index .exit)) (now (out .exit)) ⌝ }
 {
@@ -218,7 +248,15 @@ pub fn start() -> Reader
 }
 
 // A line that is whole: what it prints, and the reader after it, at a place of the chunk.
-fn judge(bytes: &[u8], r: Reader, next: usize, cells: &mut [i32], index: &mut [i32], numbers: &mut [i32], out: &mut [u8]) -> Reader
+fn judge(
+    bytes: &[u8],
+    r: Reader,
+    next: usize,
+    cells: &mut [i32],
+    index: &mut [i32],
+    numbers: &mut [i32],
+    out: &mut [u8],
+) -> Reader
     requires { ⌜ Lent (now cells) (now index) (now numbers) (now out) (r .out) × Kept (r .state) (now cells) (now index) × (r .line < 4611686018427387904) ⌝ }
     ensures { λ x. ⌜ Judged (lineOf (now (bytes .entry))) r next (now (cells .entry)) (now (out .entry)) x (now (cells .exit)) (now (index .exit)) (now (out .exit)) ⌝ }
 {
@@ -263,7 +301,15 @@ fn append(carry: &mut [u8], n: usize, bytes: &[u8])
 
 // The rest of the line at the reader's place. One that lies whole in the chunk is judged where it stands; one that goes over the chunk's end is carried, and is
 // a fault at its 81st byte, so that a line of any length costs no more.
-fn cut(chunk: &[u8], r: Reader, carry: &mut [u8], cells: &mut [i32], index: &mut [i32], numbers: &mut [i32], out: &mut [u8]) -> Reader
+fn cut(
+    chunk: &[u8],
+    r: Reader,
+    carry: &mut [u8],
+    cells: &mut [i32],
+    index: &mut [i32],
+    numbers: &mut [i32],
+    out: &mut [u8],
+) -> Reader
     requires { ⌜ Buffers (now cells) (now index) (now numbers) (now carry) × Sound r (now cells) (now index) (now carry) × Goes r (length (now chunk)) (length (now out)) ⌝ }
     ensures { λ x. ⌜ Turned r (now (chunk .entry)) (now (cells .entry)) (now (carry .entry)) (now (out .entry)) x (now (cells .exit)) (now (index .exit)) (now (carry .exit)) (now (out .exit)) × (r .at < x .at) ⌝ }
 {
@@ -327,7 +373,15 @@ fn goes_on(r: Reader, len: usize, room: usize) -> bool
 }
 
 // The lines of a chunk from the reader's place on, until the chunk ends, the output is nearly full, or a fault ends it.
-pub fn feed(chunk: &[u8], r: Reader, carry: &mut [u8], cells: &mut [i32], index: &mut [i32], numbers: &mut [i32], out: &mut [u8]) -> Reader
+pub fn feed(
+    chunk: &[u8],
+    r: Reader,
+    carry: &mut [u8],
+    cells: &mut [i32],
+    index: &mut [i32],
+    numbers: &mut [i32],
+    out: &mut [u8],
+) -> Reader
     requires { ⌜ Buffers (now cells) (now index) (now numbers) (now carry) × Sound r (now cells) (now index) (now carry) × (r .out ≤ length (now out)) ⌝ }
     ensures { λ x. ⌜ Turned r (now (chunk .entry)) (now (cells .entry)) (now (carry .entry)) (now (out .entry)) x (now (cells .exit)) (now (index .exit)) (now (carry .exit)) (now (out .exit)) ⌝ }
 {
@@ -339,7 +393,14 @@ pub fn feed(chunk: &[u8], r: Reader, carry: &mut [u8], cells: &mut [i32], index:
 }
 
 // The end of the input: the last line, where its line feed is missing.
-pub fn finish(r: Reader, carry: &mut [u8], cells: &mut [i32], index: &mut [i32], numbers: &mut [i32], out: &mut [u8]) -> Reader
+pub fn finish(
+    r: Reader,
+    carry: &mut [u8],
+    cells: &mut [i32],
+    index: &mut [i32],
+    numbers: &mut [i32],
+    out: &mut [u8],
+) -> Reader
     requires { ⌜ Buffers (now cells) (now index) (now numbers) (now carry) × Sound r (now cells) (now index) (now carry) × (r .out + 5420 ≤ length (now out)) × (r .line < 4611686018427387904) ⌝ }
     ensures { λ x. ⌜ Finished r (now (cells .entry)) (now (carry .entry)) (now (out .entry)) x (now (out .exit)) ⌝ }
 {

@@ -17,24 +17,49 @@ fn write_out(out: &[u8], n: usize) -> bool {
     false
 }
 
+// As much of a chunk as the output has room for, handed on, and what it prints written.
+fn pass(
+    chunk: &[u8],
+    r: Reader,
+    carry: &mut [u8],
+    cells: &mut [i32],
+    index: &mut [i32],
+    numbers: &mut [i32],
+    out: &mut [u8],
+) -> Reader
+    requires { ⌜ Buffers (now cells) (now index) (now numbers) (now carry) × Sound r (now cells) (now index) (now carry) × (r .out ≡ 0) ⌝ }
+    ensures { λ x. ⌜ Sound x (now (cells .exit)) (now (index .exit)) (now (carry .exit)) × (x .out ≡ 0) ⌝ }
+{
+    let x = lines::feed(chunk, r, carry, cells, index, numbers, out);
+    let n = x.out;
+    if write_out(out, n) {
+        return lines::written(x);
+    }
+    lines::stopped()
+}
+
+fn is_read(r: Reader, len: usize) -> bool {
+    r.ended | (len <= r.at)
+}
+
 // A chunk, handed on again whenever the output was full; the reader after it. Each turn reads a byte at least, so the turns are enough.
-fn hand_on(chunk: &[u8], r: Reader, carry: &mut [u8], cells: &mut [i32], index: &mut [i32], numbers: &mut [i32], out: &mut [u8]) -> Reader
+fn hand_on(
+    chunk: &[u8],
+    r: Reader,
+    carry: &mut [u8],
+    cells: &mut [i32],
+    index: &mut [i32],
+    numbers: &mut [i32],
+    out: &mut [u8],
+) -> Reader
     requires { ⌜ Buffers (now cells) (now index) (now numbers) (now carry) × Sound r (now cells) (now index) (now carry) × (r .out ≡ 0) ⌝ }
     ensures { λ x. ⌜ Sound x (now (cells .exit)) (now (index .exit)) (now (carry .exit)) × (x .out ≡ 0) ⌝ }
 {
     let mut x = r;
     let mut turns = chunk.len();
     while turns > 0 {
-        let y = lines::feed(chunk, x, carry, cells, index, numbers, out);
-        let n = y.out;
-        if !write_out(out, n) {
-            return lines::stopped();
-        }
-        x = lines::written(y);
-        if x.ended {
-            return x;
-        }
-        if chunk.len() <= x.at {
+        x = pass(chunk, x, carry, cells, index, numbers, out);
+        if is_read(x, chunk.len()) {
             return x;
         }
         turns -= 1;
@@ -43,20 +68,35 @@ fn hand_on(chunk: &[u8], r: Reader, carry: &mut [u8], cells: &mut [i32], index: 
 }
 
 // The end of the input: the last line, if its line feed is missing.
-fn end(r: Reader, carry: &mut [u8], cells: &mut [i32], index: &mut [i32], numbers: &mut [i32], out: &mut [u8]) -> Reader
+fn end(
+    r: Reader,
+    carry: &mut [u8],
+    cells: &mut [i32],
+    index: &mut [i32],
+    numbers: &mut [i32],
+    out: &mut [u8],
+) -> Reader
     requires { ⌜ Buffers (now cells) (now index) (now numbers) (now carry) × Sound r (now cells) (now index) (now carry) × (r .out ≡ 0) × (length (now out) ≡ 65536) ⌝ }
     ensures { λ x. ⌜ Sound x (now (cells .exit)) (now (index .exit)) (now (carry .exit)) × (x .out ≡ 0) ⌝ }
 {
-    if r.line < 4611686018427387904 {
-        let y = lines::finish(r, carry, cells, index, numbers, out);
-        let n = y.out;
-        write_out(out, n);
+    if 4611686018427387904 <= r.line {
+        return lines::stopped();
     }
+    let y = lines::finish(r, carry, cells, index, numbers, out);
+    let n = y.out;
+    write_out(out, n);
     lines::stopped()
 }
 
 // Reads once, and hands on what came.
-fn turn(r: Reader, carry: &mut [u8], cells: &mut [i32], index: &mut [i32], numbers: &mut [i32], out: &mut [u8]) -> Reader
+fn turn(
+    r: Reader,
+    carry: &mut [u8],
+    cells: &mut [i32],
+    index: &mut [i32],
+    numbers: &mut [i32],
+    out: &mut [u8],
+) -> Reader
     requires { ⌜ Buffers (now cells) (now index) (now numbers) (now carry) × Sound r (now cells) (now index) (now carry) × (r .out ≡ 0) × (length (now out) ≡ 65536) ⌝ }
     ensures { λ x. ⌜ Sound x (now (cells .exit)) (now (index .exit)) (now (carry .exit)) × (x .out ≡ 0) ⌝ }
 {

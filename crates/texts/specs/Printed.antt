@@ -77,4 +77,3 @@ fault-written m n {at} {out} {i} {j} {out₁} {out₂} h a b =
     (omega (arith, s, length-append (tab ∷ digitsOf n) (lineFeed ∷ [])))
     a
     (written-join (omega (arith, s, l, a .ends)) b (written-one (omega (arith, s, l, k, a .ends, b .ends)))))
-

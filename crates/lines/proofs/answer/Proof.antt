@@ -65,14 +65,15 @@ returns : tie.Need-returns
 returns c =
     let s = c .before .before .before .before .before .before .before .before .before .before .before in
     let a = s .args in
-    let q = c .before .before .before .before .before .before in
-    (c .before .before .put-answer .ensures .0,
+    let q = c .before .before .before .before .before .before in (
+      c .before .before .put-answer .ensures .0,
       subst (λ t. Written t (a .at) (a .out .now) (c .before .before .put-answer .result) (c .before .before .put-answer .last .0))
-    (ap (λ l. printed (q .query .result, l)) (lent-again q)
-    ∙ ap printed (q .query .ensures .0)
-    ∙ printed-over (take (q .before .before .before .words .result) (a .index .now)) (a .w) (a .t .size) (take (a .t .size) (a .numbers .now)) (cells-fit s)
-    ∙ ap (λ n. printed (queried (take n (a .index .now)) (a .w) (replicate (a .t .size) (pos 0)))) (q .before .before .before .words .ensures .0))
-    (c .before .before .put-answer .ensures .1))
+          (ap (λ l. printed (q .query .result, l)) (lent-again q)
+          ∙ ap printed (q .query .ensures .0)
+          ∙ printed-over (take (q .before .before .before .words .result) (a .index .now)) (a .w) (a .t .size) (take (a .t .size) (a .numbers .now)) (cells-fit s)
+          ∙ ap (λ n. printed (queried (take n (a .index .now)) (a .w) (replicate (a .t .size) (pos 0)))) (q .before .before .before .words .ensures .0))
+          (c .before .before .put-answer .ensures .1),
+    )
 
 pub answer-spec : {M : Type 1} → statement M
 answer-spec =

@@ -66,9 +66,10 @@ returns c =
     let t = c .before .before .before .before .before .before .before .before .before .before .before .before .before in
     let j = c .before .before .before .before .before .judge in
     let l = a .chunk .now in
-    let h = subst (λ b. Judged (lineOf b) (a .r) (t .end-of .result + 1) (a .cells .now) (a .out .now) (j .result) (j .last .1 .1 .1 .0) (j .last .1 .1 .1 .1 .0) (j .last .1 .1 .1 .1 .1 .1 .0)) (ap (λ n. take n (a .carry .now) ++ take (t .end-of .result - a .r .at) (drop (a .r .at) l)) (sym (c .before .before .before .before .before .before .before .before .before .before .before .before .if1 .taken))) (j .ensures) in
-    (turned-line (a .r) l (a .cells .now) (a .index .now) (a .carry .now) (s .pre .1) (s .pre .2 .going) (t .end-of .ensures) (c .before .before .before .before .before .before .before .before .before .before .before .if2 .taken) h,
-      omega (arith, j .ensures .next .0, t .end-of .ensures .starts))
+    let h = subst (λ b. Judged (lineOf b) (a .r) (t .end-of .result + 1) (a .cells .now) (a .out .now) (j .result) (j .last .1 .1 .1 .0) (j .last .1 .1 .1 .1 .0) (j .last .1 .1 .1 .1 .1 .1 .0)) (ap (λ n. take n (a .carry .now) ++ take (t .end-of .result - a .r .at) (drop (a .r .at) l)) (sym (c .before .before .before .before .before .before .before .before .before .before .before .before .if1 .taken))) (j .ensures) in (
+      turned-line (a .r) l (a .cells .now) (a .index .now) (a .carry .now) (s .pre .1) (s .pre .2 .going) (t .end-of .ensures) (c .before .before .before .before .before .before .before .before .before .before .before .if2 .taken) h,
+      omega (arith, j .ensures .next .0, t .end-of .ensures .starts),
+    )
 
 sub-m : tie.Need-sub-m
 sub-m c = search needs
@@ -90,10 +91,11 @@ returns-2 c =
     let s = c .before .before .before .before .before .before .before .before .before .before in
     let a = s .args in
     let t = c .before .before .before .before .before .before in
-    let p = c .before .before .put-fault in
-    (turned-long (a .r) (a .chunk .now) (a .cells .now) (a .index .now) (a .carry .now) (s .pre .1) (s .pre .2 .going) (t .end-of .ensures)
-      (omega (arith, c .before .before .before .before .if3 .taken, length-append (take (a .r .carried) (a .carry .now)) (take (t .end-of .result - a .r .at) (drop (a .r .at) (a .chunk .now))), carry-length s, piece-length t)) (p .ensures .0) (p .ensures .1),
-      omega (arith, t .end-of .ensures .starts))
+    let p = c .before .before .put-fault in (
+      turned-long (a .r) (a .chunk .now) (a .cells .now) (a .index .now) (a .carry .now) (s .pre .1) (s .pre .2 .going) (t .end-of .ensures)
+          (omega (arith, c .before .before .before .before .if3 .taken, length-append (take (a .r .carried) (a .carry .now)) (take (t .end-of .result - a .r .at) (drop (a .r .at) (a .chunk .now))), carry-length s, piece-length t)) (p .ensures .0) (p .ensures .1),
+      omega (arith, t .end-of .ensures .starts),
+    )
 
 sub-append : tie.Need-sub-append
 sub-append c = search needs
@@ -147,9 +149,10 @@ returns-3 c =
     let a = s .args in
     let t = c .before .before .before .before .before .before .before .before .before .before .before .before .before .before .before .before .before .before .before in
     let j = c .before .before .before .before .before .judge2 in
-    let h = subst (λ b. Judged (lineOf b) (a .r) (t .end-of .result + 1) (a .cells .now) (a .out .now) (j .result) (j .last .1 .1 .1 .0) (j .last .1 .1 .1 .1 .0) (j .last .1 .1 .1 .1 .1 .1 .0)) (carried (c .before .before .before .before .before .before .before .before .before .before .before .before .before .before)) (j .ensures) in
-    (turned-line (a .r) (a .chunk .now) (a .cells .now) (a .index .now) (a .carry .now) (s .pre .1) (s .pre .2 .going) (t .end-of .ensures) (c .before .before .before .before .before .before .before .before .before .before .before .if4 .taken) h,
-      omega (arith, j .ensures .next .0, t .end-of .ensures .starts))
+    let h = subst (λ b. Judged (lineOf b) (a .r) (t .end-of .result + 1) (a .cells .now) (a .out .now) (j .result) (j .last .1 .1 .1 .0) (j .last .1 .1 .1 .1 .0) (j .last .1 .1 .1 .1 .1 .1 .0)) (carried (c .before .before .before .before .before .before .before .before .before .before .before .before .before .before)) (j .ensures) in (
+      turned-line (a .r) (a .chunk .now) (a .cells .now) (a .index .now) (a .carry .now) (s .pre .1) (s .pre .2 .going) (t .end-of .ensures) (c .before .before .before .before .before .before .before .before .before .before .before .if4 .taken) h,
+      omega (arith, j .ensures .next .0, t .end-of .ensures .starts),
+    )
 
 same-length-11 : tie.Need-same-length-11
 same-length-11 c = search needs
@@ -158,9 +161,10 @@ returns-4 : tie.Need-returns-4
 returns-4 c =
     let s = c .before .before .before .before .before .before .before .before .before .before .before .before in
     let a = s .args in
-    let t = c .before .before .before .before .before .before .before .before in
-    (turned-over (a .r) (a .chunk .now) (a .cells .now) (a .index .now) (a .carry .now) (s .pre .1) (s .pre .2 .going) (t .end-of .ensures) (c .if4 .left) (omega (arith, s .pre .2 .room)) (c .before .before .before .before .before .before .if3 .left) (carried (c .before .before .before)),
-      omega (arith, c .if4 .left, s .pre .2 .inside))
+    let t = c .before .before .before .before .before .before .before .before in (
+      turned-over (a .r) (a .chunk .now) (a .cells .now) (a .index .now) (a .carry .now) (s .pre .1) (s .pre .2 .going) (t .end-of .ensures) (c .if4 .left) (omega (arith, s .pre .2 .room)) (c .before .before .before .before .before .before .if3 .left) (carried (c .before .before .before)),
+      omega (arith, c .if4 .left, s .pre .2 .inside),
+    )
 
 pub cut-spec : {M : Type 1} → statement M
 cut-spec =

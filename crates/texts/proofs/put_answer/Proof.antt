@@ -78,10 +78,11 @@ returns c =
     let b = c .before .before .before .before .before .before in
     let t = c .before .before .put-tabbed in
     let x = length-set (s .args .out .now) (s .args .at) 65 in
-    let h : t .result ≤ length (s .args .out .now) = omega (arith, t .ensures .0, b .put-field2 .kept .0, a .put-field .kept .0, x) in
-    (h,
+    let h : t .result ≤ length (s .args .out .now) = omega (arith, t .ensures .0, b .put-field2 .kept .0, a .put-field .kept .0, x) in (
+      h,
       answer-written (s .args .reply, s .args .numbers .now) (omega (arith, s .pre)) (omega (arith, s .pre, first a .ends, counts-short (c .before .before .before .before .before .before .before .before .before .before .before .before .before .before .before))) (omega (arith, s .pre, first a .ends, second b .ends, counts-short (c .before .before .before .before .before .before .before .before .before .before .before .before .before .before .before), visits-short (c .before .before .before .before .before .before .before .before .before .before .before .before .before .before .before))) h (first a) (a .put-field .kept .0 ∙ x) (second b)
-      (subst (λ n. Written (tabbed (take n (s .args .numbers .now))) (b .put-field2 .result) (b .put-field2 .last .0) (t .result) (c .before .before .put-tabbed .last .0)) (listed (c .before .before .before .before .before .before .before .before .before .before .before .before .before .before)) (t .ensures .1)))
+          (subst (λ n. Written (tabbed (take n (s .args .numbers .now))) (b .put-field2 .result) (b .put-field2 .last .0) (t .result) (c .before .before .put-tabbed .last .0)) (listed (c .before .before .before .before .before .before .before .before .before .before .before .before .before .before)) (t .ensures .1)),
+    )
 
 pub put-answer-spec : {M : Type 1} → statement M
 put-answer-spec =

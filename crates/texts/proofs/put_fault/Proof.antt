@@ -47,9 +47,10 @@ same-length c =
 
 returns : tie.Need-returns
 returns c =
-    let s = c .before .before .before .before .before .before .before .before .before in
-    (omega (arith, room c, c .before .before .put-count2 .kept .0, c .before .before .before .before .before .before .put-count .kept .0, length-set (s .args .out .now) (s .args .at) 82),
-      fault-written (s .args .number) (s .args .line) (omega (arith, s .pre, count-le 19 (s .args .number) (omega (arith, s .fits .number)), count-le 19 (s .args .line) (omega (arith, s .fits .line)))) (c .before .before .before .before .before .before .put-count .ensures) (c .before .before .put-count2 .ensures))
+    let s = c .before .before .before .before .before .before .before .before .before in (
+      omega (arith, room c, c .before .before .put-count2 .kept .0, c .before .before .before .before .before .before .put-count .kept .0, length-set (s .args .out .now) (s .args .at) 82),
+      fault-written (s .args .number) (s .args .line) (omega (arith, s .pre, count-le 19 (s .args .number) (omega (arith, s .fits .number)), count-le 19 (s .args .line) (omega (arith, s .fits .line)))) (c .before .before .before .before .before .before .put-count .ensures) (c .before .before .put-count2 .ensures),
+    )
 
 pub put-fault-spec : {M : Type 1} → statement M
 put-fault-spec =

@@ -61,13 +61,14 @@ loop-again c =
     let l = t .before .before .loop in
     let s = t .before .before .before .before .before in
     let w = subst (λ z. Written (tab ∷ decimal z) (l .k) (l .out) (c .before .before .put-field .result) (c .before .before .put-field .last .0)) (value t) (c .before .before .put-field .ensures) in
-    let h = t .before .loop-test .taken in
-    (omega (arith, h),
+    let h = t .before .loop-test .taken in (
+      omega (arith, h),
       l .inv .1,
       c .before .before .put-field .kept .0 ∙ l .inv .2,
       omega (arith, l .inv .3, w .ends, short t),
       subst (λ x. Written x (s .args .at) (s .args .out .now) (c .before .before .put-field .result) (c .before .before .put-field .last .0)) (sym (fields-next (s .args .numbers .now) (l .i) (omega (arith, h, l .inv .1))))
-      (written-join (omega (arith, l .inv .4 .ends, l .inv .3, s .pre, short t, h, l .inv .1)) (l .inv .4) w))
+          (written-join (omega (arith, l .inv .4 .ends, l .inv .3, s .pre, short t, h, l .inv .1)) (l .inv .4) w),
+    )
 
 slice-write-out : tie.Need-slice-write-out Inv-loop μ-loop
 slice-write-out c = omega (arith, c .before .before .before .before .pre, c .before .loop .inv .0, c .before .loop .inv .1, c .before .loop .inv .2, c .before .loop .inv .3)
@@ -86,10 +87,11 @@ returns c =
     let n = c .before .before .least .result in
     let i : l .i ≡ n = omega (arith, l .inv .0, c .loop-test .left) in
     let e : take (l .i) (a .numbers .now) ≡ take (a .count) (a .numbers .now) = ap (λ m. take m (a .numbers .now)) (i ∙ c .before .before .least .ensures) ∙ take-least (a .count) (a .numbers .now) in
-    let k : l .k < length (l .out) = omega (arith, s .pre, l .inv .0, l .inv .1, l .inv .2, l .inv .3) in
-    (omega (arith, k, l .inv .2),
+    let k : l .k < length (l .out) = omega (arith, s .pre, l .inv .0, l .inv .1, l .inv .2, l .inv .3) in (
+      omega (arith, k, l .inv .2),
       subst (λ x. Written x (a .at) (a .out .now) (l .k + 1) (set (l .out) (l .k) 10)) (fields-end (take (l .i) (a .numbers .now)) ∙ ap tabbed e)
-      (written-join (omega (arith, l .inv .4 .ends, k, l .inv .2)) (l .inv .4) (written-one k)))
+          (written-join (omega (arith, l .inv .4 .ends, k, l .inv .2)) (l .inv .4) (written-one k)),
+    )
 
 pub put-tabbed-spec : {M : Type 1} → statement M
 put-tabbed-spec =
