@@ -8,7 +8,7 @@ use native.Mathlib.Omega.{arith}
 use lib.Dec.{ltb}
 use lib.IntN.{ℤ, pos}
 use lib.ListN.{length, getD, take, drop, length-append, length-take, length-drop}
-use Rattle.lists.specs.Plain.{half, firstHalf, secondHalf, count, by, sort}
+use Rattle.lists.specs.Plain.{half, firstHalf, secondHalf, last, count, by, insert, sort}
 use Rattle.lists.specs.Orders.{Linear, upTo, ltb-linear, by-linear, greatest-linear}
 use Rattle.lists.specs.Counting.{count-length}
 use Rattle.lists.specs.Halves.{first-length, second-length}
@@ -84,6 +84,11 @@ module _ (rs : List Segment) (axis : Axis) (end : End) where
       let r = enough (length ps) (length (rights (p ∷ ps))) (rights (p ∷ ps)) (omega (arith, sizes p ps)) (omega arith) in
       let t = within-any (sort (takenBefore rs axis end) (p ∷ ps)) 0 p 0 (omega (arith, sort-length (takenBefore rs axis end) (p ∷ ps))) in
       rw (l, r, t)
+
+  -- a queue of one
+  pub queue-one : (p : ℕ) → queueWords rs axis end (p ∷ []) ≡ pos p ∷ pos 0 ∷ []
+  unfolding queueWordsTo sort insert last
+  queue-one p = refl
 
   words-length : (f : ℕ) (ps : List ℕ) → length ps ≤ f → length (queueWordsTo rs axis f end ps) ≡ 2 * length ps
   unfolding queueWordsTo

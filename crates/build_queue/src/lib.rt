@@ -111,6 +111,11 @@ pub fn queue(table: &[i32], ends: Ends, high: bool, part: &mut [i32], s: usize)
     if s == 0 {
         return;
     }
+    // half of all queues have one position: no call for their empty halves
+    if s == 1 {
+        part[1] = 0;
+        return;
+    }
     head(table, ends, high, part, s);
     let left = s / 2;
     let middle = 2 + 2 * left;

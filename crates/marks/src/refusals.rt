@@ -26,6 +26,17 @@ pub fn of_table(table: &[i32], descriptor: Descriptor) -> usize
     0
 }
 
+// The first of n positions whose segment is refused by answer 5, or else by answer 6, or n.
+pub fn first_bad(number: usize, table: &[i32], descriptor: Descriptor, n: usize) -> usize
+    requires { ⌜ (n ≡ sizeOf descriptor) × Held (pos (length (now table))) descriptor ⌝ }
+    ensures { λ r. ⌜ badSegment number (segmentsOf descriptor (now (table .entry))) ≡ foundAt number n r ⌝ }
+{
+    if number == 5 {
+        return table::first_far(table, descriptor, n);
+    }
+    table::first_slanted(table, descriptor, n)
+}
+
 // Which answers carry a place.
 fn carries_place(number: usize) -> bool
     ensures { λ r. ⌜ r ≡ carriesPlace number ⌝ }

@@ -2,10 +2,10 @@
 use borrow.Author.Needs.{needs}
 use native.Mathlib.Omega.{arith}
 use mathlib.Core.Path.{_≡_, refl, sym, ap, _∙_}
-use mathlib.Core.List.{List, [], _∷_}
+use mathlib.Core.List.{List, [], _∷_, _++_, map}
 use Prim.Native.Nat.{ℕ, _+_, _-_, _*_, _/_, _<_}
-use lib.IntN.{ℤ}
-use lib.ListN.{length, length-map, take, drop}
+use lib.IntN.{ℤ, pos}
+use lib.ListN.{length, length-map, take, drop, set}
 use lib.Seq.{length-take-le}
 use borrow.Rule.Slice.PartMut.{putMid}
 use Rattle.lists.specs.Plain.{toNat}
@@ -15,6 +15,7 @@ use Rattle.paper.specs.Words.{Axis, End, queueWords, queueWordsTo}
 use Rattle.records.specs.Records.{recordsOf}
 use Rattle.build_queue.specs.Ends.{axisOf, endOf}
 use Rattle.build_queue.specs.Runs.{named, Stands}
+use Rattle.build_queue.specs.Queues.{queue-one}
 use Rattle.build_queue.specs.Parting as parting
 use borrow.Fn.Kinds.{In}
 use borrow.Fn.PlainCycle.{Measures, is, falls, and}
@@ -43,6 +44,16 @@ unfolding queueWordsTo
 none rs axis end s [] h z = rw z
 none rs axis end s (x ∷ xs) h z = absurd (omega arith)
 
+one : (rs : List Segment) (axis : Axis) (end : End) (s : ℕ) (xs : List ℤ) → length xs ≡ 2 * s → s ≡ 1 → map pos (named (take s xs)) ≡ take s xs
+    → set xs 1 (pos 0) ≡ queueWords rs axis end (named (take s xs))
+one rs axis end s [] h z p = absurd (omega arith)
+one rs axis end s (x ∷ []) h z p = absurd (omega arith)
+one rs axis end s (x ∷ y ∷ []) h z p =
+    let e : take s (x ∷ y ∷ []) ≡ x ∷ [] = ap (λ k. take k (x ∷ y ∷ [])) z in
+    let w : pos (toNat x) ∷ [] ≡ x ∷ [] = ap (λ l. map pos (named l)) (sym e) ∙ p ∙ e in
+    sym (ap (λ l. l ++ (pos 0 ∷ [])) w) ∙ sym (queue-one rs axis end (toNat x)) ∙ ap (λ l. queueWords rs axis end (named l)) (sym e)
+one rs axis end s (x ∷ y ∷ z′ ∷ xs) h z p = absurd (omega arith)
+
 part-length : (a k : ℕ) (xs : List ℤ) → a + k < length xs + 1 → length (take k (drop a xs)) ≡ k
 unfolding win
 part-length a k xs h = length-win a k xs (omega arith)
@@ -50,7 +61,7 @@ part-length a k xs h = length-win a k xs (omega arith)
 -- what is known after `head`
 module _ (t : ℕ) (c : queue-lts.After-head (calls t) (queue-at t) queue.Post) where
   abbrev st : queue-lts.Start (calls t) (queue-at t) queue.Post
-  st = c .before .before .before
+  st = c .before .before .before .before
 
   abbrev s : ℕ
   s = st .args .s
@@ -116,10 +127,22 @@ queue-returns t c =
     let a = c .before .args in
     none (recordsOf (a .ends .d) (a .table .now)) (axisOf (a .ends)) (endOf (a .high)) (a .s) (a .part .now) (c .before .pre .1 .1 .0) (c .if1 .taken)
 
+queue-slice-set-of-part : (t : ℕ) → queue-lts.Need-slice-set-of-part (calls t) (queue-at t) queue.Post
+queue-slice-set-of-part t c = omega (arith, c .if2 .taken, c .before .before .pre .1 .1 .0)
+
+queue-same-length : (t : ℕ) → queue-lts.Need-same-length (calls t) (queue-at t) queue.Post
+queue-same-length t c = search needs
+
+queue-returns-2 : (t : ℕ) → queue-lts.Need-returns-2 (calls t) (queue-at t) queue.Post
+queue-returns-2 t c =
+    let s = c .before .before in
+    let a = s .args in
+    one (recordsOf (a .ends .d) (a .table .now)) (axisOf (a .ends)) (endOf (a .high)) (a .s) (a .part .now) (s .pre .1 .1 .0) (c .if2 .taken) (s .pre .1 .1 .1 .plain)
+
 queue-head-requires : (t : ℕ) → queue-lts.Need-head-requires (calls t) (queue-at t) queue.Post
 queue-head-requires t c κs =
-    let p = c .before .before .pre .1 in
-    (p .0, (omega (arith, c .before .if1 .left), p .1 .0, p .1 .1))
+    let p = c .before .before .before .pre .1 in
+    (p .0, (omega (arith, c .before .before .if1 .left), p .1 .0, p .1 .1))
 
 queue-mul-middle : (t : ℕ) → queue-lts.Need-mul-middle (calls t) (queue-at t) queue.Post
 queue-mul-middle t c = search needs
@@ -168,13 +191,13 @@ queue-queue-requires-2 t c κs =
       (st t d .pre .1 .0, (part₂ t d (c .before .before .queue .last .1 .1 .1 .0) (c .before .before .queue .ensures), second-run t d (c .before .before .queue .last .1 .1 .1 .0) (c .before .before .queue .ensures))),
     )
 
-queue-same-length : (t : ℕ) → queue-lts.Need-same-length (calls t) (queue-at t) queue.Post
-queue-same-length t c =
+queue-same-length-2 : (t : ℕ) → queue-lts.Need-same-length-2 (calls t) (queue-at t) queue.Post
+queue-same-length-2 t c =
     let e = c .before .before .before .before in
     as-long₂ t (e .before .before .before) (e .queue .last .1 .1 .1 .0) (e .queue .ensures) (c .before .queue2 .last .1 .1 .1 .0) (c .before .queue2 .ensures)
 
-queue-returns-2 : (t : ℕ) → queue-lts.Need-returns-2 (calls t) (queue-at t) queue.Post
-queue-returns-2 t c =
+queue-returns-3 : (t : ℕ) → queue-lts.Need-returns-3 (calls t) (queue-at t) queue.Post
+queue-returns-3 t c =
     let e = c .before .before .before .before in
     built t (e .before .before .before) (e .queue .last .1 .1 .1 .0) (e .queue .ensures) (c .before .queue2 .last .1 .1 .1 .0) (c .before .queue2 .ensures)
 
@@ -183,6 +206,9 @@ pub +queue-spec : {M : Type 1} → statement M
     (queue-at t)
     queue.Post
     (queue-returns t)
+    (queue-slice-set-of-part t)
+    (queue-same-length t)
+    (queue-returns-2 t)
     (queue-head-requires t)
     (queue-mul-middle t)
     (queue-add-middle t)
@@ -197,5 +223,5 @@ pub +queue-spec : {M : Type 1} → statement M
     (queue-sub-queue-3 t)
     (queue-sub-queue-4 t)
     (queue-queue-requires-2 t)
-    (queue-same-length t)
-    (queue-returns-2 t)
+    (queue-same-length-2 t)
+    (queue-returns-3 t)
