@@ -11,9 +11,10 @@ use lib.ListN.{length}
 use Rattle.whole.specs.Whole.{whole}
 use Rattle.lists.specs.Tests.{by-test}
 use Rattle.lists.specs.Every.{All}
-use Rattle.paper.specs.Answers.{Answer, answer, answerAt, badKind, badLower, badExtent, badCells, judged, refused}
+use Rattle.paper.specs.Answers.{Answer, answer, answerAt, badKind, badLower, badExtent, badCells, badCoordinate, badSlant, judged, refused}
 use Rattle.paper.specs.Results.{Result}
 use Rattle.paper.specs.declared.Descriptor.{Descriptor}
+use Rattle.paper.specs.declared.Segment.{Segment}
 use Rattle.table.specs.Cells.{foundAt}
 
 -- the answers that carry a place: 5 and 6, the position sought
@@ -31,6 +32,10 @@ firstGiven xs = judged xs (λ x. x .number) 0
 -- the tests that stand first in each order over a table: 1, 2, 3, 4
 abbrev pub tableOrder : List ℤ → Descriptor → List Answer
 tableOrder table d = badKind (d .kind) ∷ badLower (d .kind) (d .lower) ∷ badExtent (d .extent) ∷ badCells (pos (length table)) d ∷ []
+
+-- the answer that is sought over the segments: 5, or else 6
+abbrev pub badSegment : ℕ → List Segment → Answer
+badSegment number segments = cond (eqb number 5) (badCoordinate segments) (badSlant segments)
 
 -- ---- one test
 

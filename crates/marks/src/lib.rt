@@ -50,11 +50,11 @@ pub fn build(table: &[i32], descriptor: Descriptor, index: &mut [i32]) -> Reply
     if index.len() < words {
         return refusals::refusal(7, 0);
     }
-    let far = table::first_far(table, descriptor, n);
+    let far = refusals::first_bad(5, table, descriptor, n);
     if far < n {
         return refusals::refusal(5, far);
     }
-    let slanted = table::first_slanted(table, descriptor, n);
+    let slanted = refusals::first_bad(6, table, descriptor, n);
     if slanted < n {
         return refusals::refusal(6, slanted);
     }

@@ -1,9 +1,14 @@
 // What the public calls share: the tests of a table that stand first in every order over one, and the replies.
 ghost use mathlib.Core.Path.{_≡_};
 ghost use Prim.Native.Nat.{_<_, _≤_};
+ghost use mathlib.Core.Bool.{cond};
+ghost use lib.Dec.{eqb};
 ghost use lib.IntN.{pos};
+ghost use lib.ListN.{length};
+ghost use Rattle.paper.specs.Descriptor.{sizeOf, segmentsOf};
 ghost use Rattle.paper.specs.Answers.{refused, done as Done};
-ghost use Rattle.marks.specs.Orders.{carriesPlace, refusalAt, firstGiven, tableOrder};
+ghost use Rattle.marks.specs.Orders.{carriesPlace, refusalAt, firstGiven, tableOrder, badSegment};
+ghost use Rattle.table.specs.Cells.{Held, foundAt};
 use paper::Descriptor;
 use paper::Reply;
 
@@ -29,7 +34,7 @@ pub fn of_table(table: &[i32], descriptor: Descriptor) -> usize
 // The first of n positions whose segment is refused by answer 5, or else by answer 6, or n.
 pub fn first_bad(number: usize, table: &[i32], descriptor: Descriptor, n: usize) -> usize
     requires { ⌜ (n ≡ sizeOf descriptor) × Held (pos (length (now table))) descriptor ⌝ }
-    ensures { λ r. ⌜ badSegment number (segmentsOf descriptor (now (table .entry))) ≡ foundAt number n r ⌝ }
+    ensures { λ r. ⌜ badSegment number (segmentsOf descriptor (now (table .entry))) ≡ foundAt (cond (eqb number 5) 5 6) n r ⌝ }
 {
     if number == 5 {
         return table::first_far(table, descriptor, n);

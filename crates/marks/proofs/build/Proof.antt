@@ -50,14 +50,14 @@ module _ (c : tie.Else3) where
   counted = roomed .before
 
   near : badCoordinate (segmentsOf (start (told counted) .args .descriptor) (start (told counted) .args .table .now)) .given ≡ false
-  near = found-none 5 (counted .before .count .result) (c .before .first-far .result) (c .if3 .left) (c .before .first-far .ensures .1)
+  near = found-none 5 (counted .before .count .result) (c .before .first-bad .result) (c .if3 .left) (c .before .first-bad .ensures)
 
 module _ (c : tie.Else4) where
   abbrev limited : tie.Else3
   limited = c .before .before
 
   straight : badSlant (segmentsOf (start (told (counted limited)) .args .descriptor) (start (told (counted limited)) .args .table .now)) .given ≡ false
-  straight = found-none 6 (counted limited .before .count .result) (c .before .first-slanted .result) (c .if4 .left) (c .before .first-slanted .ensures .1)
+  straight = found-none 6 (counted limited .before .count .result) (c .before .first-bad2 .result) (c .if4 .left) (c .before .first-bad2 .ensures)
 
 of-table-requires : tie.Need-of-table-requires
 of-table-requires c κs = search needs
@@ -87,8 +87,8 @@ returns-2 c =
     by-room (a .table .now) (a .descriptor) (a .index .now) (first (told w))
     (lt-ltb (length (a .index .now)) (W (sizeOf (a .descriptor))) (omega (arith, words-are w, c .before .if2 .taken))) (c .refusal2 .ensures)
 
-first-far-requires : tie.Need-first-far-requires
-first-far-requires c κs = (c .before .before .count .ensures .0, held (told (c .before)))
+first-bad-requires : tie.Need-first-bad-requires
+first-bad-requires c κs = (c .before .before .count .ensures .0, held (told (c .before)))
 
 refusal-requires-3 : tie.Need-refusal-requires-3
 refusal-requires-3 c κs = search needs
@@ -99,11 +99,11 @@ returns-3 c =
     let e = f .before in
     let w = e .before in
     let a = start (told w) .args in
-    by-far (a .table .now) (a .descriptor) (a .index .now) (first (told w)) (roomy e) (f .first-far .result)
-    (found-at 5 (w .before .count .result) (f .first-far .result) (c .before .if3 .taken) (f .first-far .ensures .1)) (c .refusal3 .ensures)
+    by-far (a .table .now) (a .descriptor) (a .index .now) (first (told w)) (roomy e) (f .first-bad .result)
+    (found-at 5 (w .before .count .result) (f .first-bad .result) (c .before .if3 .taken) (f .first-bad .ensures)) (c .refusal3 .ensures)
 
-first-slanted-requires : tie.Need-first-slanted-requires
-first-slanted-requires c κs = (counted c .before .count .ensures .0, held (told (counted c)))
+first-bad-requires-2 : tie.Need-first-bad-requires-2
+first-bad-requires-2 c κs = (counted c .before .count .ensures .0, held (told (counted c)))
 
 refusal-requires-4 : tie.Need-refusal-requires-4
 refusal-requires-4 c κs = search needs
@@ -114,8 +114,8 @@ returns-4 c =
     let e = f .before in
     let w = counted e in
     let a = start (told w) .args in
-    by-slant (a .table .now) (a .descriptor) (a .index .now) (first (told w)) (roomy (roomed e)) (near e) (f .first-slanted .result)
-    (found-at 6 (w .before .count .result) (f .first-slanted .result) (c .before .if4 .taken) (f .first-slanted .ensures .1)) (c .refusal4 .ensures)
+    by-slant (a .table .now) (a .descriptor) (a .index .now) (first (told w)) (roomy (roomed e)) (near e) (f .first-bad2 .result)
+    (found-at 6 (w .before .count .result) (f .first-bad2 .result) (c .before .if4 .taken) (f .first-bad2 .ensures)) (c .refusal4 .ensures)
 
 build-words-requires : tie.Need-build-words-requires
 build-words-requires c κs =
@@ -154,10 +154,10 @@ build-spec =
     words-requires
     refusal-requires-2
     returns-2
-    first-far-requires
+    first-bad-requires
     refusal-requires-3
     returns-3
-    first-slanted-requires
+    first-bad-requires-2
     refusal-requires-4
     returns-4
     build-words-requires
