@@ -6,6 +6,7 @@ use mathlib.Core.Bool.{Bool, true, false, cond}
 use mathlib.Core.List.{List}
 use Prim.Native.Nat.{ℕ}
 use lib.Dec.{eqb}
+use Rattle.paper.specs.Descriptor.{segmentsOf}
 use Rattle.paper.specs.declared.Segment.{Segment}
 use Rattle.paper.specs.Answers.{badCoordinate, badSlant}
 use Rattle.table.specs.Cells.{foundAt}
@@ -23,13 +24,17 @@ first-far-requires : tie.Need-first-far-requires
 first-far-requires c κs = search needs
 
 returns : tie.Need-returns
-returns c = five _ _ _ _ (eq-eqb _ _ (c .before .if1 .taken)) (c .first-far .ensures .1)
+returns c =
+    let a = c .before .before .args in
+    five (a .number) (a .n) (c .first-far .result) (segmentsOf (a .descriptor) (a .table .now)) (eq-eqb (a .number) 5 (c .before .if1 .taken)) (c .first-far .ensures .1)
 
 first-slanted-requires : tie.Need-first-slanted-requires
 first-slanted-requires c κs = search needs
 
 returns-2 : tie.Need-returns-2
-returns-2 c = six _ _ _ _ (ne-eqb _ _ (c .before .if1 .left)) (c .first-slanted .ensures .1)
+returns-2 c =
+    let a = c .before .before .args in
+    six (a .number) (a .n) (c .first-slanted .result) (segmentsOf (a .descriptor) (a .table .now)) (ne-eqb (a .number) 5 (c .before .if1 .left)) (c .first-slanted .ensures .1)
 
 pub first-bad-spec : {M : Type 1} → statement M
 first-bad-spec = tie.close (tie.spec first-far-requires returns first-slanted-requires returns-2)
