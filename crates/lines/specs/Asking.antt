@@ -12,7 +12,7 @@ use lib.IntN.{ℤ, pos}
 use lib.ListN.{length, take, drop, replicate, length-map, length-replicate}
 use lib.Seq.{take-append-seam}
 use Rattle.lists.specs.Digits.{digits-least}
-use Rattle.lists.specs.Choosing.{any-none, filter-none}
+use Rattle.lists.specs.Choosing.{any-none, chosen-none}
 use Rattle.paper.specs.Descriptor.{cellOf, segmentOf, outside}
 use Rattle.paper.specs.Answers.{answerAt, positionsOf, badExtent, badCells, badBuffer, badWindow, farOff, slanted, refused, done}
 use Rattle.paper.specs.Words.{L, D, W, indexWords}
@@ -80,7 +80,7 @@ most-words n h =
 module _ (t : Table) (cells : List ℤ) (fit : Fits t cells) where
   none-given : (number : ℕ) (q : Segment → Bool) → ((p : ℕ) → p < t .size → q (segmentOf (descriptorOf t) cells p) ≡ false) → answerAt number (positionsOf q (segmentsIn t cells)) .given ≡ false
   none-given number q h =
-      ap (λ ps. answerAt number ps .given) (chosen-are (descriptorOf t) cells q ∙ filter-none (λ p. q (segmentOf (descriptorOf t) cells p)) (t .size) h)
+      ap (λ ps. answerAt number ps .given) (chosen-are (descriptorOf t) cells q ∙ chosen-none (λ p. q (segmentOf (descriptorOf t) cells p)) (t .size) h)
 
   pub size-is : length (segmentsIn t cells) ≡ t .size
   size-is = length-segments (descriptorOf t) cells

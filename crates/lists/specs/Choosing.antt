@@ -1,20 +1,21 @@
 -- The positions 0 to n − 1 that pass a test, one position more at a time, as a loop goes: whether there is any, which they are, the first of them.
 -- Use: `any-next`, `filter-next` and `over-step` for a loop's invariant; `First` for a search from the front. Assumes nothing.
-use mathlib.Core.Path.{_≡_, refl, sym, ap, ap₂, _∙_}
-use mathlib.Core.Bool.{Bool, true, false, _||_, cond}
+use mathlib.Core.Path.{_≡_, refl, sym, ap, ap₂, _∙_, subst}
+use mathlib.Core.Bool.{Bool, true, false, not, _||_, cond}
 use mathlib.Core.List.{List, [], _∷_, _++_, map, map-append}
 use Prim.Native.Nat.{ℕ, zero, suc, _+_, _≤_, _<_}
 use native.Mathlib.Omega.{arith}
 use native.Mathlib.Numerals.{add-one}
 use native.Mathlib.Nat.{not-suc-le-zero, lt-irrefl, le-of-lt, le-refl}
 use native.Mathlib.Decide.{decLt}
-use lib.Dec.{eqb, ltb}
+use lib.Dec.{T, eqb, ltb}
 use lib.ListN.{length, drop, getD, set, length-append, length-drop, length-map, List·getD-append}
 use borrow.Author.Tests.{lt-ltb, le-ltb}
 use Rattle.lists.specs.Plain.{positions, filter, count, any, joined}
 use Rattle.lists.specs.Tests.{gate, clash, or-assoc, or-none, or-left, or-right}
-use Rattle.lists.specs.Counting.{filter-count, count-at}
-use Rattle.lists.specs.Every.{All, Sorted, all-append}
+use Rattle.lists.specs.Filters.{filter-none, filter-same}
+use Rattle.lists.specs.Counting.{filter-count, filter-length, count-le, count-at}
+use Rattle.lists.specs.Every.{All, Sorted, all-map, all-append}
 use Rattle.lists.specs.Positions.{positions-length, positions-count, positions-below}
 
 -- ---- what is made of each position
@@ -106,18 +107,12 @@ module _ (q : ℕ → Bool) where
   filter-suc : (n : ℕ) → filter q (positions (suc n)) ≡ filter q (positions n) ++ cond (q n) (n ∷ []) []
   filter-suc n = rw (← add-one n) (filter-next n)
 
-  pub filter-length : (n : ℕ) → length (filter q (positions n)) ≤ n
-  filter-length zero = rw filter-zero (omega arith)
-  filter-length (suc n) =
-      rw (filter-suc n) (omega (arith, length-append (filter q (positions n)) (cond (q n) (n ∷ []) []), filter-length n, one (q n)))
-    where
-      one : (b : Bool) → length (cond b (n ∷ []) []) ≤ 1
-      one true = omega arith
-      one false = omega arith
+  -- no more pass than there are
+  pub chosen-length : (n : ℕ) → length (filter q (positions n)) ≤ n
+  chosen-length n = omega (arith, filter-length q (positions n), count-le q (positions n), positions-length n)
 
-  pub filter-none : (n : ℕ) → ((p : ℕ) → p < n → q p ≡ false) → filter q (positions n) ≡ []
-  filter-none zero h = filter-zero
-  filter-none (suc n) h = filter-suc n ∙ ap₂ (λ l b. l ++ cond b (n ∷ []) []) (filter-none n (λ p l. h p (omega arith))) (h n (omega arith))
+  pub chosen-none : (n : ℕ) → ((p : ℕ) → p < n → q p ≡ false) → filter q (positions n) ≡ []
+  chosen-none n h = filter-none q (all-map (λ p l. subst (λ b. T (not b)) (sym (h p l)) tt) (positions-below n n (le-refl n)))
 
   -- the first that passes stands in front
   pub filter-first : (n r : ℕ) → r < n → ((k : ℕ) → k < r → q k ≡ false) → q r ≡ true → (rest : List ℕ) × (filter q (positions n) ≡ r ∷ rest)
@@ -128,12 +123,10 @@ module _ (q : ℕ → Bool) where
       go i (yes l) = let s = i l in (s .0 ++ cond (q n) (n ∷ []) [], filter-suc n ∙ ap (λ m. m ++ cond (q n) (n ∷ []) []) (s .1))
       go i (no l) =
           let e₁ : r ≡ n = omega arith in
-          ([], filter-suc n ∙ ap₂ (λ m c. m ++ cond c (n ∷ []) []) (filter-none n (λ k g. b k (omega arith))) (ap q (sym e₁) ∙ e) ∙ ap (λ m. m ∷ []) (sym e₁))
+          ([], filter-suc n ∙ ap₂ (λ m c. m ++ cond c (n ∷ []) []) (chosen-none n (λ k g. b k (omega arith))) (ap q (sym e₁) ∙ e) ∙ ap (λ m. m ∷ []) (sym e₁))
 
-pub filter-same : (q r : ℕ → Bool) (n : ℕ) → ((p : ℕ) → p < n → q p ≡ r p) → filter q (positions n) ≡ filter r (positions n)
-filter-same q r zero h = filter-zero q ∙ sym (filter-zero r)
-filter-same q r (suc n) h =
-    filter-suc q n ∙ ap₂ (λ l b. l ++ cond b (n ∷ []) []) (filter-same q r n (λ p l. h p (omega arith))) (h n (omega arith)) ∙ sym (filter-suc r n)
+pub chosen-same : (q r : ℕ → Bool) (n : ℕ) → ((p : ℕ) → p < n → q p ≡ r p) → filter q (positions n) ≡ filter r (positions n)
+chosen-same q r n h = filter-same (all-map h (positions-below n n (le-refl n)))
 
 -- ---- a search from the front: r is the first number below n that q holds of, and n where there is none
 pub record First (q : ℕ → Bool) (n r : ℕ) : Type 0 where

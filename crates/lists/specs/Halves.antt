@@ -6,10 +6,9 @@ use mathlib.Core.List.{List, [], _∷_, _++_, map}
 use mathlib.Core.Bool.{Bool, not}
 use Prim.Native.Nat.{ℕ, zero, suc, _+_, _-_, _*_, _/_, _≤_, _<_}
 use native.Mathlib.Omega.{arith}
-use lib.ListN.{length, take, drop, getD, length-append, length-map, length-take, length-drop, take-append-drop}
+use lib.ListN.{length, take, drop, getD, length-append, length-take, length-drop, take-append-drop}
 use lib.Seq.{take-all, take-at, drop-at}
 use lib.Dec.{T}
-use Rattle.lists.specs.Maps.{map-take, map-drop}
 use Rattle.lists.specs.Plain.{half, firstHalf, secondHalf, last, count}
 use Rattle.lists.specs.Tests.{yes-not}
 use Rattle.lists.specs.Orders.{Order, le-self}
@@ -38,12 +37,6 @@ module _ {A : Type 0} where
 
   pub second-of : (u v : List A) (n : ℕ) → length u ≡ half n → length v ≡ n - half n → secondHalf (u ++ v) ≡ v
   second-of u v n h g = drop-at u v (half (length (u ++ v))) (h ∙ ap half (omega (arith, length-append u v)))
-
-pub first-map : {A B : Type 0} (f : A → B) (l : List A) → map f (firstHalf l) ≡ firstHalf (map f l)
-first-map f l = map-take f (half (length l)) l ∙ ap (λ k. take (half k) (map f l)) (sym (length-map l f))
-
-pub second-map : {A B : Type 0} (f : A → B) (l : List A) → map f (secondHalf l) ≡ secondHalf (map f l)
-second-map f l = map-drop f (half (length l)) l ∙ ap (λ k. drop (half k) (map f l)) (sym (length-map l f))
 
 -- a list in the order of a key
 module _ {A K : Type 0} (le : K → K → Bool) (o : Order le) (key : A → K) where

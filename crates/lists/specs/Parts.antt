@@ -171,8 +171,8 @@ module _ {ℓ} {A : Type ℓ} where
   onward i n xs = sym (take-append-drop n (drop i xs)) ∙ ap (λ l. take n (drop i xs) ++ l) (drop-drop n i xs)
 
   -- a list by a part of it
-  pub apart : (a n : ℕ) (xs : List A) → xs ≡ take a xs ++ (win a n xs ++ drop (a + n) xs)
-  apart a n xs = sym (take-append-drop a xs) ∙ ap (λ l. take a xs ++ l) (onward a n xs)
+  pub in-three : (a n : ℕ) (xs : List A) → xs ≡ take a xs ++ (win a n xs ++ drop (a + n) xs)
+  in-three a n xs = sym (take-append-drop a xs) ∙ ap (λ l. take a xs ++ l) (onward a n xs)
 
   -- the list with a part replaced, by its parts
   put-wins : (a : ℕ) (v xs : List A) (n : ℕ) → length xs ≤ n → put a v xs ≡ win 0 a xs ++ (v ++ win (a + length v) n xs)
@@ -246,7 +246,7 @@ module _ {ℓ} {A : Type ℓ} where
           ∙ ap (λ l. c ++ l) (onward b (length w) xs)
 
       whole : xs ≡ p ++ (m ++ (c ++ (x ++ r)))
-      whole = apart a (length v) xs ∙ ap (λ l. p ++ (m ++ l)) after
+      whole = in-three a (length v) xs ∙ ap (λ l. p ++ (m ++ l)) after
 
   -- a write after a part that is replaced
   pub put-set-after : (t k : ℕ) (x : A) (v s : List A) → t + length v ≤ k → k < length s → set (put t v s) k x ≡ put t v (set s k x)
@@ -254,10 +254,6 @@ module _ {ℓ} {A : Type ℓ} where
       put-one k x (put t v s) (omega (arith, length-put t v s (omega arith)))
       ∙ put-swap t k v (x ∷ []) s h (omega arith)
       ∙ ap (put t v) (sym (put-one k x s l))
-
-  pub put-self : (a n : ℕ) (xs : List A) → a + n ≤ length xs → put a (win a n xs) xs ≡ xs
-  unfolding put
-  put-self a n xs h = ap (λ k. take a xs ++ (win a n xs ++ drop (a + k) xs)) (length-win a n xs h) ∙ sym (apart a n xs)
 
   -- all of a list replaced
   pub put-all : (v s : List A) → length v ≡ length s → put 0 v s ≡ v
@@ -274,7 +270,7 @@ module _ {ℓ} {A : Type ℓ} where
       let lp : length p ≡ a = length-take-le a xs (omega arith) in
       let lm : length m ≡ length v = length-win a (length v) xs (omega arith) in
       let lx : length x ≡ length w = length-win (a + length v) (length w) xs (omega arith) in
-      let whole : xs ≡ p ++ (m ++ (x ++ r)) = apart a (length v) xs ∙ ap (λ l. p ++ (m ++ l)) (onward (a + length v) (length w) xs) in
+      let whole : xs ≡ p ++ (m ++ (x ++ r)) = in-three a (length v) xs ∙ ap (λ l. p ++ (m ++ l)) (onward (a + length v) (length w) xs) in
       let l₁ : length (p ++ v) ≡ a + length v = simp length-append (omega arith) in
       let l₂ : length (m ++ x) ≡ length (v ++ w) = simp length-append (omega arith) in
       let g₁ : p ++ (v ++ (x ++ r)) ≡ (p ++ v) ++ (x ++ r) = simp append-assoc in

@@ -25,15 +25,15 @@ module _ (up : ℕ → Bool) where
   looks zero lo hi = 0
   looks (suc f) lo hi = cond (eqb lo hi) 0 (suc (cond (up ((lo + hi) / 2)) (looks f lo ((lo + hi) / 2)) (looks f (suc ((lo + hi) / 2)) hi)))
 
-  pub apart : (m n : ℕ) → T (not (eqb m n)) → m ≢ n
-  apart m n h e = T-not (eqb m n) h (subst (λ (k : ℕ). T (eqb m k)) e (eqb-refl m))
+  pub unequal : (m n : ℕ) → T (not (eqb m n)) → m ≢ n
+  unequal m n h e = T-not (eqb m n) h (subst (λ (k : ℕ). T (eqb m k)) e (eqb-refl m))
 
   pub found-at : (t f lo hi : ℕ) → ((i : ℕ) → T (up i) → i < hi → t ≤ i) → ((i : ℕ) → T (not (up i)) → i < hi → i < t) → lo ≤ t → t ≤ hi → hi ≤ lo + f → found f lo hi ≡ t
   unfolding found
   found-at t zero lo hi hy hn l h e = omega arith
   found-at t (suc f) lo hi hy hn l h e =
       cases (λ n. n ≡ t) (eqb lo hi) lo _ (λ k. omega (arith, eqb→eq lo hi k)) (λ k.
-      let ne = apart lo hi k in
+      let ne = unequal lo hi k in
       let m = (lo + hi) / 2 in
       cases (λ n. n ≡ t) (up m) _ _
       (λ u. found-at t f lo m (λ i v w. hy i v (omega arith)) (λ i v w. hn i v (omega arith)) l (hy m u (omega arith)) (omega arith))
@@ -42,10 +42,10 @@ module _ (up : ℕ → Bool) where
   pub looks-le : (f h lo hi : ℕ) → lo ≤ hi → hi - lo < 2 ^ h → looks f lo hi ≤ h
   unfolding looks
   looks-le zero h lo hi l e = omega arith
-  looks-le (suc f) zero lo hi l e = cases (λ n. n ≤ 0) (eqb lo hi) 0 _ (λ k. omega arith) (λ k. absurd (apart lo hi k (omega arith)))
+  looks-le (suc f) zero lo hi l e = cases (λ n. n ≤ 0) (eqb lo hi) 0 _ (λ k. omega arith) (λ k. absurd (unequal lo hi k (omega arith)))
   looks-le (suc f) (suc h) lo hi l e =
       cases (λ n. n ≤ suc h) (eqb lo hi) 0 _ (λ k. omega arith) (λ k.
-      let ne = apart lo hi k in
+      let ne = unequal lo hi k in
       let m = (lo + hi) / 2 in
       cases (λ n. suc n ≤ suc h) (up m) _ _
       (λ u. omega (arith, looks-le f h lo m (omega arith) (omega (arith, two-pow-succ h))))

@@ -17,7 +17,7 @@ use Rattle.lists.specs.Counting.{count-nil, count-cons}
 use Rattle.lists.specs.Positions.{positions-below}
 use Rattle.lists.specs.Sorting.{sort-all}
 use Rattle.lists.specs.Halves.{first-length, second-length}
-use Rattle.lists.specs.Searching.{found, looks, apart}
+use Rattle.lists.specs.Searching.{found, looks, unequal}
 use Rattle.paper.specs.Descriptor.{at}
 use Rattle.paper.specs.Words.{D, levelsAt, lowY, xOrder, countAt, nodes, slots, levelsWords}
 use Rattle.paper.specs.Walk.{Kind, atSearch, atNode, atSlot, Event, visit, due, when, asCount, word, recordAt, searchTo, slotsWalk, byEnds, countWord, nodeAt, nodeWalk}
@@ -94,13 +94,13 @@ module _ (rs : List Segment) (w : Window) (ws : List ℤ) (reads : (p : ℕ) →
       step (eqb lo hi) (up rs w mid) (visit atSearch (levelsAt n + mid)) _ (searchTo ws n w f lo mid next) (searchTo ws n w f (mid + 1) hi next)
       (searchEvents rs w f lo mid) (searchEvents rs w f (suc mid) hi) lo (found (up rs w) f lo mid) (found (up rs w) f (suc mid) hi)
       (λ t.
-      let ne = apart (λ x. true) lo hi t in
+      let ne = unequal (λ x. true) lo hi t in
       let g : q < n = all-getD mid 0 (omega arith) (sort-all (by (lowY rs) ltb) (order-below rs)) in
       position-read n (word ws (levelsAt n + mid)) q _ (at-get ws (levelsAt n) (slots rs (xOrder rs)) mid 0 (omega arith) root-at) g
       ∙ ap (λ (s : Segment). cond (leZ (w .c) (s .y1)) (searchTo ws n w f lo mid next) (searchTo ws n w f (mid + 1) hi next)) (reads q g))
-      (λ t u. let ne = apart (λ x. true) lo hi t in search-walk next f lo mid (omega arith) (omega arith))
+      (λ t u. let ne = unequal (λ x. true) lo hi t in search-walk next f lo mid (omega arith) (omega arith))
       (λ t u.
-      let ne = apart (λ x. true) lo hi t in
+      let ne = unequal (λ x. true) lo hi t in
       let e : suc mid ≡ mid + 1 = omega arith in
       subst (λ (m : ℕ). searchTo ws n w f m hi next ≡ searchEvents rs w f (suc mid) hi ++ next (found (up rs w) f (suc mid) hi)) e (search-walk next f (suc mid) hi (omega arith) h))
     where
@@ -155,7 +155,7 @@ module _ (rs : List Segment) (w : Window) (ws : List ℤ) (reads : (p : ℕ) →
       cases (λ z. z ≡ pos (leftOf rs w r p)) (eqb p (length r)) _ _
       (λ t. ap (λ (x : ℕ). pos x) (sym (left-full rs w v) ∙ ap (λ (x : ℕ). leftOf rs w r x) (sym (eqb→eq p (length r) t))))
       (λ t.
-      let ne = apart (λ x. true) p (length r) t in
+      let ne = unequal (λ x. true) p (length r) t in
       let e : place k + n + o + p ≡ place k + o + n + p = omega arith in
       subst (λ (x : ℕ). word ws x ≡ pos (leftOf rs w r p)) e (at-number ws (countAt rs r) (length r) (place k + n + o) p (omega arith) (counts-at rs ws stand k o r h s)))
 

@@ -11,7 +11,7 @@ use mir.Val.{SFits, toZ, ofZ}
 use Rattle.whole.specs.Whole.{Ex, within, _⊕_}
 use Rattle.whole.specs.Fits.{between, fits, asks, plain}
 use Rattle.lists.specs.Plain.{filter, positions}
-use Rattle.lists.specs.Choosing.{filter-zero, filter-next, filter-length, over-step, over-length}
+use Rattle.lists.specs.Choosing.{filter-zero, filter-next, chosen-length, over-step, over-length}
 use Rattle.paper.specs.Descriptor.{firstNumber, numberOf, sizeOf, segmentOf, segmentsOf}
 use Rattle.paper.specs.Corners.{weighed}
 use Rattle.paper.specs.Answers.{badLower, badWindow, farOff, positionsOf}
@@ -51,7 +51,7 @@ module _ (table : List ℤ) (d : Descriptor) (w : Window) where
   all-chosen = sym (chosen-are d table (weighed w))
 
   pub length-chosen : (n : ℕ) → length (chosen n) ≤ n
-  length-chosen n = filter-length hit n
+  length-chosen n = chosen-length hit n
 
   length-listed : (n : ℕ) → length (listed n) ≡ length (chosen n)
   length-listed n = length-map (chosen n) (numberOf (firstNumber (d .kind) (d .lower)))

@@ -10,7 +10,7 @@ use lib.ListN.{length, length-map}
 use borrow.Author.Tests.{lt-ltb, le-ltb}
 use Rattle.lists.specs.Plain.{positions, filter}
 use Rattle.lists.specs.Positions.{positions-length}
-use Rattle.lists.specs.Choosing.{First, at-map, filter-same, filter-none, filter-first}
+use Rattle.lists.specs.Choosing.{First, at-map, chosen-same, chosen-none, filter-first}
 use Rattle.paper.specs.Descriptor.{sizeOf, segmentOf, segmentsOf, at}
 use Rattle.paper.specs.Answers.{answer, answerAt, positionsOf}
 use Rattle.paper.specs.declared.Descriptor.{Descriptor}
@@ -30,7 +30,7 @@ module _ (d : Descriptor) (table : List ℤ) where
   pub chosen-are : (q : Segment → Bool) → positionsOf q (segmentsOf d table) ≡ filter (λ p. q (segmentOf d table p)) (positions (sizeOf d))
   chosen-are q =
       ap (λ n. filter (λ p. q (at (segmentsOf d table) p)) (positions n)) length-segments
-      ∙ filter-same (λ p. q (at (segmentsOf d table) p)) (λ p. q (segmentOf d table p)) (sizeOf d) (λ p h. ap q (at-segment p h))
+      ∙ chosen-same (λ p. q (at (segmentsOf d table) p)) (λ p. q (segmentOf d table p)) (sizeOf d) (λ p h. ap q (at-segment p h))
 
   -- an answer that is sought over the whole table, by the first position that has the fault
   pub first-answer : (number : ℕ) (q : Segment → Bool) (n r : ℕ) → n ≡ sizeOf d → First (λ p. q (segmentOf d table p)) n r
@@ -46,5 +46,5 @@ module _ (d : Descriptor) (table : List ℤ) where
           let t = filter-first f n r l (s .before) (s .here l) in
           ap (answerAt number) (t .1) ∙ ap (λ b. cond b (record { number = number; given = true; count = 0; position = r }) (answer number false)) (sym (lt-ltb r n l))
       go (no l) =
-          ap (answerAt number) (filter-none f n (λ p h. s .before p (omega arith)))
+          ap (answerAt number) (chosen-none f n (λ p h. s .before p (omega arith)))
           ∙ ap (λ b. cond b (record { number = number; given = true; count = 0; position = r }) (answer number false)) (sym (le-ltb r n (omega arith)))
