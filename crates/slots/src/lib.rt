@@ -64,7 +64,7 @@ pub fn search(words: &[i32], n: usize, window: Window, tally0: Tally) -> Found
     }
 }
 
-// What one slot leaves: whether the next one is read.
+// What one slot leaves: whether the next one is read, which is not so after a spoiled word.
 pub struct Slot {
     pub tally: Tally,
     pub more: bool,
@@ -98,9 +98,10 @@ fn one_slot(
             more: false,
         };
     }
+    let listed = list(numbers, index, seen, q);
     Slot {
-        tally: list(numbers, index, seen, q),
-        more: true,
+        tally: listed,
+        more: listed.stopped == 0,
     }
 }
 
@@ -119,13 +120,13 @@ pub fn slots(
     requires { ⌜ tally0 .visits + count0 < 2 ^ 20 ⌝ }
     ensures { λ r. ⌜ Along (index .n) (index .lower) (slotsWalk (now (words .entry)) (index .n) window count0 at0) count0 (tally0, now (numbers .entry)) (r, now (numbers .exit)) ⌝ }
 {
+    if 0 < tally0.stopped {
+        return tally0;
+    }
     let mut tally = tally0;
     let mut count = count0;
     let mut at = at0;
     while 0 < count {
-        if 0 < tally.stopped {
-            return tally;
-        }
         let slot = one_slot(words, numbers, index, window, tally, at);
         let next = slot.tally;
         tally = next;

@@ -1,17 +1,17 @@
 -- What the code keeps of a walk, a tally and the number cells, and what a list of `paper`'s events makes of it: `after`.
 -- A proof cites the laws `after-..` and opens nothing.
-use mathlib.Core.Path.{_≡_, refl, ap, _∙_}
+use mathlib.Core.Path.{_≡_, refl, sym, ap, _∙_}
 use mathlib.Core.Bool.{Bool, true, false, cond}
 use mathlib.Core.List.{List, [], _∷_, _++_}
-use Prim.Native.Nat.{ℕ, _+_, _≤_, _<_}
+use Prim.Native.Nat.{ℕ, zero, suc, _+_, _≤_, _<_}
 use native.Mathlib.Omega.{arith}
 use lib.ListN.{length, drop, set}
 use lib.Seq.{set-out, drop-set-lt}
 use lib.Dec.{ltb, eqb}
-use borrow.Author.Tests.{lt-ltb, le-ltb, ltb-true, eq-eqb, ne-eqb}
+use borrow.Author.Tests.{lt-ltb, le-ltb, ltb-true, eq-eqb, ne-eqb, eqb-false}
 use lib.IntN.{ℤ}
 use Rattle.paper.specs.Descriptor.{numberOf}
-use Rattle.paper.specs.Walk.{Kind, Event, visit, due, spoiled}
+use Rattle.paper.specs.Walk.{Kind, Event, visit, due, spoiled, when}
 use Rattle.tally.specs.declared.Tally.{Tally}
 
 abbrev pub State : Type 0
@@ -41,6 +41,10 @@ unfoldable pub after : ℕ → ℤ → List Event → State → State
 after n first [] s = s
 after n first (e ∷ es) s = after n first es (cond (eqb (s .0 .stopped) 0) (does n first e s) s)
 
+positive : (k : ℕ) → (k ≡ 0 → ⊥) → 0 < k
+positive zero h = absurd (h refl)
+positive (suc k) h = omega arith
+
 module _ (n : ℕ) (first : ℤ) where
   pub after-end : (s : State) → after n first [] s ≡ s
   unfolding after
@@ -57,6 +61,14 @@ module _ (n : ℕ) (first : ℤ) where
   after-stopped [] s h = refl
   after-stopped (e ∷ es) s h =
       ap (λ (b : Bool). after n first es (cond b (does n first e s) s)) (ne-eqb (s .0 .stopped) 0 (λ q. omega arith)) ∙ after-stopped es s h
+
+  -- a walk that goes on only where none has been read
+  pub after-going : (es : List Event) (s : State) → after n first es s ≡ after n first (when (eqb (s .0 .stopped) 0) es) s
+  after-going es s = go (eqb (s .0 .stopped) 0) refl
+    where
+      go : (b : Bool) → eqb (s .0 .stopped) 0 ≡ b → after n first es s ≡ after n first (when b es) s
+      go true e = refl
+      go false e = let h : 0 < s .0 .stopped = positive (s .0 .stopped) (eqb-false (s .0 .stopped) 0 e) in after-stopped es s h ∙ sym (after-end s)
 
   module _ (s : State) (going : s .0 .stopped ≡ 0) where
     once : (e : Event) (es : List Event) → after n first (e ∷ es) s ≡ after n first es (does n first e s)

@@ -55,15 +55,15 @@ same-length c = search needs
 
 returns-3 : tie.Need-returns-3
 returns-3 c =
-    let b = c .before .before .before .before .before .before .before .before .before .before in
+    let b = c .before .before .before .before .before .before .before .before .before .before .before in
     let ws = now (b .args .words) in
-    let q = c .before .before .before .before .before .before .before .before .whole-at in
+    let q = c .before .before .before .before .before .before .before .before .before .whole-at in
     let st : State = (b .args .tally, now (b .args .numbers)) in
-    let y : c .before .before .before .before .keeps .result ≡ leZ (recordAt ws (q .result) .y1) (b .args .window .d) =
-    keeps-is ws (q .result) 1 _ (b .args .window .d) _ _ (omega arith) (c .before .before .before .before .before .before .coordinate-at .ensures) (kept w64 (b .args .window .d) (c .before .before .before .before .before .struct-told .given .1 .1 .1 .0 .1)) (c .before .before .before .before .keeps .ensures) in
-    slot-due ws (b .args .index) (b .args .window) (b .args .at) _ (q .ensures .0) st (b .pre .1 .1 .0) (c .before .before .before .before .before .before .before .if1 .left) (sym (not-false (c .before .before .before .before .keeps .result) (c .before .before .before .if2 .left)) ∙ y)
-    (c .before .list .result, c .before .list .last .0)
-    (c .before .list .ensures ∙ ap (λ t. listing (b .args .index .n) (b .args .index .lower) (q .result) (t, now (b .args .numbers))) (c .before .before .before .before .before .before .before .before .before .see .ensures))
+    let y : c .before .before .before .before .before .keeps .result ≡ leZ (recordAt ws (q .result) .y1) (b .args .window .d) =
+    keeps-is ws (q .result) 1 _ (b .args .window .d) _ _ (omega arith) (c .before .before .before .before .before .before .before .coordinate-at .ensures) (kept w64 (b .args .window .d) (c .before .before .before .before .before .before .struct-told .given .1 .1 .1 .0 .1)) (c .before .before .before .before .before .keeps .ensures) in
+    slot-due ws (b .args .index) (b .args .window) (b .args .at) _ (q .ensures .0) st (b .pre .1 .1 .0) (c .before .before .before .before .before .before .before .before .if1 .left) (sym (not-false (c .before .before .before .before .before .keeps .result) (c .before .before .before .before .if2 .left)) ∙ y)
+    (c .before .before .list .result, c .before .before .list .last .0)
+    (c .before .before .list .ensures ∙ ap (λ t. listing (b .args .index .n) (b .args .index .lower) (q .result) (t, now (b .args .numbers))) (c .before .before .before .before .before .before .before .before .before .before .see .ensures))
 
 pub one-slot-spec : {M : Type 1} → statement M
 one-slot-spec =
