@@ -3,6 +3,7 @@ use mathlib.Core.Path.{_≡_}
 use mathlib.Core.Bool.{Bool, true, false, not, _||_, cond}
 use Prim.Native.Nat.{ℕ}
 use lib.IntN.{ℤ, pos, _+ℤ_, _*ℤ_}
+use lib.Signed.{ltZ}
 use lib.Dec.{eqb, ltb}
 use Rattle.lists.specs.Plain.{any, positions}
 use Rattle.paper.specs.Limits.{strideFits}
@@ -35,6 +36,10 @@ pub record Held (len : ℤ) (d : Descriptor) : Type 0 where
 -- what answer 5 is given for in a segment, and what answer 6
 abbrev pub fault : ℕ → Segment → Bool
 fault number s = cond (eqb number 5) (farOff s) (slanted s)
+
+-- where the cells of a stride begin, of 0 to last
+abbrev pub lowEnd : ℤ → ℕ → ℕ
+lowEnd stride last = cond (ltZ stride (pos 0)) last 0
 
 -- an answer that is given where r is below n, for position r
 abbrev pub foundAt : ℕ → ℕ → ℕ → Answer

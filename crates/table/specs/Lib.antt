@@ -3,3 +3,4 @@ pub mod Cells
 pub mod Address
 pub mod Rows
 pub mod Segments
+pub mod Close

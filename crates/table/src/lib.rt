@@ -1,7 +1,7 @@
 // A table by its descriptor: refusals 1 to 6, the cell of a position, its coordinates and segments, and W(n), said in the words of `paper`.
 // A caller tests `bad_kind`, `bad_lower`, `bad_extent` and `bad_cells` first; what passes the last two is `Held`, and may be read.
 ghost use mathlib.Core.Path.{_≡_};
-ghost use mathlib.Core.Bool.{true, false};
+ghost use mathlib.Core.Bool.{true, false, not};
 ghost use Prim.Native.Nat.{_+_, _*_, _<_, _≤_};
 ghost use lib.IntN.{pos};
 ghost use lib.ListN.{length, getD};
@@ -10,9 +10,10 @@ ghost use mir.Val.{SFits};
 ghost use Rattle.lists.specs.Plain.{toNat, any, positions};
 ghost use Rattle.lists.specs.Choosing.{First};
 ghost use Rattle.paper.specs.Descriptor.{firstNumber, cellOf, sizeOf, outside as Outside, segmentOf, segmentsOf};
+ghost use Rattle.paper.specs.Limits.{coordinateFits};
 ghost use Rattle.paper.specs.Answers.{badKind, badLower, badExtent, badCells, badCoordinate, badSlant, farOff, slanted as Slanted};
 ghost use Rattle.paper.specs.Words.{L, W};
-ghost use Rattle.table.specs.Cells.{offsetOf, badStride, Based, rowOutside, Held, fault as Fault, foundAt};
+ghost use Rattle.table.specs.Cells.{offsetOf, badStride, Based, rowOutside, Held, fault as Fault, foundAt, lowEnd};
 use paper::Descriptor;
 use paper::Segment;
 
@@ -165,13 +166,21 @@ pub fn cell(descriptor: Descriptor, i: usize, j: usize) -> i64
     base + away
 }
 
-// Coordinate j of position i: its cell is shown to be one of the table's before it is used as an index.
+// The same as an index: the cell is shown to be one of the table's first.
+fn index(table: &[i32], descriptor: Descriptor, i: usize, j: usize) -> usize
+    requires { ⌜ (i < sizeOf descriptor) × (j < 4) × Held (pos (length (now table))) descriptor ⌝ }
+    ensures { λ r. ⌜ (pos r ≡ cellOf descriptor i j) × (r ≡ toNat (cellOf descriptor i j)) × (r < length (now (table .entry))) ⌝ }
+{
+    whole::index(cell(descriptor, i, j))
+}
+
+// Coordinate j of position i.
 pub fn coordinate(table: &[i32], descriptor: Descriptor, i: usize, j: usize) -> i64
     requires { ⌜ (i < sizeOf descriptor) × (j < 4) × Held (pos (length (now table))) descriptor ⌝ }
     ensures { λ r. ⌜ r ≡ getD (now (table .entry)) (toNat (cellOf descriptor i j)) (pos 0) ⌝ }
     ensures fits { λ r. ⌜ SFits w64 r ⌝ }
 {
-    whole::cell(table, whole::index(cell(descriptor, i, j)))
+    whole::cell(table, index(table, descriptor, i, j))
 }
 
 pub fn segment(table: &[i32], descriptor: Descriptor, i: usize) -> Segment
@@ -250,11 +259,66 @@ fn first_fault(number: usize, table: &[i32], descriptor: Descriptor, n: usize) -
     n
 }
 
+// ---- answer 5 in the common case: the cells stand close together, and all between the first and the last of them are within the limits
+
+// Where the cells of a stride begin, of 0 to last: at the last where the stride is negative.
+fn low_end(stride: i64, last: usize) -> usize
+    ensures { λ r. ⌜ r ≡ lowEnd stride last ⌝ }
+{
+    if stride < 0 { last } else { 0 }
+}
+
+fn beyond(coordinate: i32) -> bool
+    ensures { λ r. ⌜ r ≡ not (coordinateFits coordinate) ⌝ }
+{
+    !((-536870912 <= coordinate) & (coordinate <= 536870912))
+}
+
+// Whether one of m cells is beyond the limits. No branch, and the cells in a row: the loop takes several at a time.
+fn any_beyond(table: &[i32], first: usize, m: usize) -> bool
+    requires { ⌜ first + m ≤ length (now table) ⌝ }
+    ensures { λ r. ⌜ r ≡ any (λ k. not (coordinateFits (getD (now (table .entry)) (first + k) (pos 0)))) (positions m) ⌝ }
+{
+    let mut bad = false;
+    let mut k = 0;
+    while k < m {
+        let at = first + k;
+        let coordinate = table[at];
+        bad = bad | beyond(coordinate);
+        k += 1;
+    }
+    bad
+}
+
+// Whether the cells of n positions stand among at most 8 cells to a position, of which none is beyond the limits. Then no coordinate is;
+// otherwise one may be.
+fn all_near(table: &[i32], descriptor: Descriptor, n: usize) -> bool
+    requires { ⌜ (0 < n) × (n ≡ sizeOf descriptor) × Held (pos (length (now table))) descriptor ⌝ }
+    ensures { λ r. ⌜ (r ≡ true → any (λ p. farOff (segmentOf descriptor (now (table .entry)) p)) (positions n) ≡ false) ⌝ }
+{
+    let last = n - 1;
+    let i = low_end(descriptor.segment_stride, last);
+    let j = low_end(descriptor.coordinate_stride, 3);
+    let first = index(table, descriptor, i, j);
+    let end = index(table, descriptor, last - i, 3 - j);
+    let m = end - first + 1;
+    if 8 * n < m {
+        return false;
+    }
+    !any_beyond(table, first, m)
+}
+
 // The first of n positions with a coordinate beyond its limits, or n.
 pub fn first_far(table: &[i32], descriptor: Descriptor, n: usize) -> usize
     requires { ⌜ (n ≡ sizeOf descriptor) × Held (pos (length (now table))) descriptor ⌝ }
     ensures { λ r. ⌜ First (λ p. farOff (segmentOf descriptor (now (table .entry)) p)) n r × (badCoordinate (segmentsOf descriptor (now (table .entry))) ≡ foundAt 5 n r) ⌝ }
 {
+    if n == 0 {
+        return n;
+    }
+    if all_near(table, descriptor, n) {
+        return n;
+    }
     first_fault(5, table, descriptor, n)
 }
 
