@@ -75,7 +75,7 @@ static int64_t expected_cell(int64_t length, int64_t base, int64_t n, int64_t se
     for (int64_t p = 0; p < n; p++)
         for (int64_t k = 0; k < 4; k++) {
             wide cell = (wide)base + (wide)p * segment + (wide)k * coordinate;
-            if (cell < 0 || cell >= length) return -4;
+            if (cell < 0 || cell >= length) return -12;
         }
     if (i < 0 || i >= n || j < 0 || j > 3) return -11;
     return (int64_t)((wide)base + (wide)i * segment + (wide)j * coordinate);

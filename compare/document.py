@@ -1,4 +1,4 @@
-"""Document 01 read a second time: table, meeting, refusals, words, walk, program, in its order and words.
+"""Document 01 read a second time: table, meeting, refusals, words, walk, program, in its order and words, with the requests that came after it.
 Hold it beside the document. Nothing here was taken from the product, and nothing is meant to be fast."""
 
 import re
@@ -74,15 +74,17 @@ def meeting(segment, window):
 
 # ---------------------------------------------------------------- Answer numbers
 
-BUILDER_ORDER = [1, 2, 3, 4, 7, 5, 6]
-SCAN_ORDER = [1, 2, 3, 4, 8, 7, 5]
+# Request E1 has put 12 directly after 4.
+BUILDER_ORDER = [1, 2, 3, 4, 12, 7, 5, 6]
+SCAN_ORDER = [1, 2, 3, 4, 12, 8, 7, 5]
 QUERY_ORDER = [9, 8, 7, 10]
-CELL_ORDER = [3, 4, 11]
+CELL_ORDER = [3, 4, 12, 11]
 WORDS_ORDER = [3]
 MEETS_ORDER = [8, 5]
 
-# A judge answers None when there is nothing to refuse, else the position to return (0 unless the document names one).
-UNNAMED = 0
+# A judge answers None when there is nothing to refuse, else the position and the count to return (0 unless the document names one).
+Place = namedtuple("Place", "position count")
+UNNAMED = Place(0, 0)
 
 
 def refused_if(fault):
@@ -92,9 +94,9 @@ def refused_if(fault):
 def first_refusal(order, judges):
     """The first refusal in that order. Judges are asked one by one: a later one may need what an earlier one showed."""
     for number in order:
-        position = judges[number]()
-        if position is not None:
-            return Reply(number, 0, 0, position)
+        place = judges[number]()
+        if place is not None:
+            return Reply(number, place.count, 0, place.position)
     return None
 
 
@@ -111,16 +113,16 @@ def bad_extent(n):
 
 
 def bad_strides(segment_stride, coordinate_stride):
-    return not (within(segment_stride, STRIDE_MOST) and within(coordinate_stride, STRIDE_MOST))
+    return refused_if(not (within(segment_stride, STRIDE_MOST) and within(coordinate_stride, STRIDE_MOST)))
 
 
 def bad_cells(length, base, n, segment_stride, coordinate_stride):
-    outside = lambda: first_outside(length, base, n, segment_stride, coordinate_stride) is not None
-    return refused_if(bad_strides(segment_stride, coordinate_stride) or outside())
+    outside = first_outside(length, base, n, segment_stride, coordinate_stride)
+    return outside and Place(position=outside[0], count=outside[1])
 
 
 def first_where(fault, segments):
-    return next((i for i, segment in enumerate(segments) if fault(segment)), None)
+    return next((Place(i, 0) for i, segment in enumerate(segments) if fault(segment)), None)
 
 
 def beyond(segment):
@@ -158,7 +160,8 @@ def table_judges(table, descriptor):
         1: lambda: bad_kind(kind),
         2: lambda: bad_lower(kind, lower),
         3: lambda: bad_extent(n),
-        4: lambda: bad_cells(len(table), base, n, segment_stride, coordinate_stride),
+        4: lambda: bad_strides(segment_stride, coordinate_stride),
+        12: lambda: bad_cells(len(table), base, n, segment_stride, coordinate_stride),
         5: lambda: first_where(beyond, segments_of(table, descriptor)),
         6: lambda: first_where(slanted, segments_of(table, descriptor)),
     }
@@ -221,7 +224,8 @@ def query(index, window, numbers):
 def host_cell(length, base, n, segment_stride, coordinate_stride, position, coordinate):
     judges = {
         3: lambda: bad_extent(n),
-        4: lambda: bad_cells(length, base, n, segment_stride, coordinate_stride),
+        4: lambda: bad_strides(segment_stride, coordinate_stride),
+        12: lambda: bad_cells(length, base, n, segment_stride, coordinate_stride),
         11: lambda: refused_if(not 0 <= position < n or not 0 <= coordinate <= 3),
     }
     refusal = first_refusal(CELL_ORDER, judges)

@@ -1,4 +1,4 @@
-"""Document 01's examples, starred or not, typed in by hand: (call, what it gives). Both the product and
+"""Document 01's examples, starred or not, as the later requests have them, typed in by hand: (call, what it gives). Both the product and
 document.py are held against these, so that a slip shared by the two would still show."""
 
 from array import array
@@ -69,14 +69,14 @@ EXAMPLES = [
     words(-1, -3),
     cell(12, 8, 3, -4, 1, 0, 0, 8),
     cell(12, 8, 3, -4, 1, 2, 3, 3),
-    cell(12, 7, 3, -4, 1, 0, 0, -4),
+    cell(12, 7, 3, -4, 1, 0, 0, -12),
     cell(12, 8, 3, -4, 1, 3, 0, -11),
     cell(12, 8, 3, -4, 1, 0, 4, -11),
     cell(-1, 0, 0, 0, 0, 0, 0, -11),  # no segment, no cell needed, and no position 0 either
     # Base 8 going down: positions 0, 1, 2 are the third, second and first four cells.
     on_table("scan", TWELVE, (2, 8, 1, 3, -4, 1), {**AROUND, "numbers": [7] * 4}, (0, 3, 0, 0), numbers=[1, 2, 3, 7]),
     on_table("scan", TWELVE, (2, 8, 1, 3, -4, 1), dict(a=3, b=5, c=1, d=3, numbers=[7] * 4), (0, 2, 0, 0), numbers=[2, 3, 7, 7]),
-    on_table("scan", TWELVE, (2, 7, 1, 3, -4, 1), {**AROUND, "numbers": [7] * 4}, (4, 0, 0, 0), numbers=[7] * 4),
+    on_table("scan", TWELVE, (2, 7, 1, 3, -4, 1), {**AROUND, "numbers": [7] * 4}, (12, 0, 0, 2), numbers=[7] * 4),
     on_table("build", [0, 2, 6, 2], (2, 0, 1, 1, 4, 1), {"index": [8] * 20}, (0, 18, 0, 0), index=ONE_SEGMENT + [8, 8]),
     on_table("build", [], (1, -(2**63), -5, 0, 0, 0), {"index": [8] * 5}, (0, 4, 0, 0), index=HEADER_OF_NONE + [8]),
     lent_example("query", dict(index=ONE_SEGMENT, a=1, b=2, c=2, d=2, numbers=[7, 7]), (0, 1, 4, 0), index=ONE_SEGMENT, numbers=[1, 7]),

@@ -34,25 +34,26 @@ enum kalinosz_answer {
     KALINOSZ_KIND = 1,       /* kind is not 1 to 3 */
     KALINOSZ_LOWER = 2,      /* lower bound beyond its limits, or kind 3 and not 0 */
     KALINOSZ_EXTENT = 3,     /* n beyond its limits */
-    KALINOSZ_CELLS = 4,      /* a stride beyond its limits, or an addressed cell outside the table */
+    KALINOSZ_STRIDES = 4,    /* a stride beyond its limits */
     KALINOSZ_COORDINATE = 5, /* a coordinate beyond its limits; reply.position is the first such position */
     KALINOSZ_SLANTED = 6,    /* build only: a segment neither horizontal nor vertical; reply.position is the first such position */
     KALINOSZ_SHORT = 7,      /* index below kalinosz_words(n) words, or numbers below n cells */
     KALINOSZ_WINDOW = 8,     /* a > b, c > d, or an edge beyond its limits */
     KALINOSZ_INDEX = 9,      /* these words are no index: fewer than 4, bad n, lower bound or counts, or fewer than kalinosz_words(n) */
     KALINOSZ_SPOILED = 10,   /* the query read a spoiled word; it has set the first n number cells to 0 */
-    KALINOSZ_PLACE = 11      /* kalinosz_cell only: no such position or coordinate */
+    KALINOSZ_PLACE = 11,     /* kalinosz_cell only: no such position or coordinate */
+    KALINOSZ_OUTSIDE = 12    /* an addressed cell outside the table; reply.position is the first such position, reply.count its first such coordinate */
 };
 
 typedef struct kalinosz_reply {
     int64_t number;   /* the answer, one of the above */
-    int64_t count;    /* scan, query: how many numbers were written; build: how many words */
+    int64_t count;    /* scan, query: how many numbers were written; build: how many words; answer 12: the coordinate, 0 to 3; otherwise 0 */
     int64_t visits;   /* query: the steps of the walk, at most 4L^2 + 15L + 2 + 2 count on built words (L: binary digits of n); otherwise 0 */
-    int64_t position; /* the first position at fault (5, 6); otherwise 0. A position counts from 0, whatever the lower bound */
+    int64_t position; /* the first position at fault (5, 6, 12); otherwise 0. A position counts from 0, whatever the lower bound */
 } kalinosz_reply;
 
 /* Lists the numbers of all segments, slanted ones too, that meet the window, ascending, in numbers[0 .. count-1]; later cells keep their values.
-   numbers has n cells or more. Answers, the first that applies: 1, 2, 3, 4, 8, 7, 5. */
+   numbers has n cells or more. Answers, the first that applies: 1, 2, 3, 4, 12, 8, 7, 5. */
 kalinosz_reply kalinosz_scan(
     const int32_t *table, size_t length,
     int64_t kind, int64_t base, int64_t lower, int64_t n, int64_t segment_stride, int64_t coordinate_stride,
@@ -61,7 +62,7 @@ kalinosz_reply kalinosz_scan(
 
 /* Writes the index of a table of horizontal and vertical segments: kalinosz_words(n) words, returned as count; later words keep their values.
    The index holds copies of all it needs: the table may change or go afterwards. It is plain words: copy it, store it, send it (in one byte order).
-   Answers, the first that applies: 1, 2, 3, 4, 7, 5, 6. */
+   Answers, the first that applies: 1, 2, 3, 4, 12, 7, 5, 6. */
 kalinosz_reply kalinosz_build(
     const int32_t *table, size_t length,
     int64_t kind, int64_t base, int64_t lower, int64_t n, int64_t segment_stride, int64_t coordinate_stride,
@@ -76,7 +77,7 @@ kalinosz_reply kalinosz_query(
 
 /* The next three return a plain number, or a refusal as its negative. */
 
-/* The cell of a coordinate, if a table of this length holds every cell of its n positions. -3, -4, -11. */
+/* The cell of a coordinate, if a table of this length holds every cell of its n positions. -3, -4, -12, -11. */
 int64_t kalinosz_cell(
     int64_t length, int64_t base, int64_t n, int64_t segment_stride, int64_t coordinate_stride, int64_t position, int64_t coordinate);
 

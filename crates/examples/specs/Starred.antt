@@ -44,9 +44,9 @@ table =
     ∷ meets (window "1 1 0 4") (segment "0 0 2 1")
     ∷ meets (window "3 3 3 3") (segment "0 0 6 6")
     ∷ misses (window "3 3 3 3") (segment "0 0 6 5")
-    -- 12 cells; kind 1, base 8, lower bound 0, n = 3, segment stride −4, coordinate stride 1: accepted; base 7: answer 4
+    -- 12 cells; kind 1, base 8, lower bound 0, n = 3, segment stride −4, coordinate stride 1: accepted; base 7: document 01 said 4, and by request E1 it is 12, position 2, count 0
     ∷ call (scan (cells "0 1 2 3 4 5 6 7 8 9 10 11") (descriptor "1 8 0 3 -4 1") (window "0 4 0 4") (sevens 3) (reply "0 1 0 0", cells "2 7 7"))
-    ∷ call (scan (cells "0 1 2 3 4 5 6 7 8 9 10 11") (descriptor "1 7 0 3 -4 1") (window "0 4 0 4") (sevens 3) (reply "4 0 0 0", cells "7 7 7"))
+    ∷ call (scan (cells "0 1 2 3 4 5 6 7 8 9 10 11") (descriptor "1 7 0 3 -4 1") (window "0 4 0 4") (sevens 3) (reply "12 0 0 2", cells "7 7 7"))
     -- (0,2)-(6,2), kind 2, lower bound 1: 18 words, and the words after them keep their values
     ∷ call (build (cells "0 2 6 2") (descriptor "2 0 1 1 4 1") (sevens 20) (reply "0 18 0 0", cells "1 1 1 0" ++ (cells "0 2 6 2" ++ (cells "0 0" ++ (cells "0 1 0 0 0 0 0 0" ++ cells "7 7")))))
     -- the program's table and window: count 2, visits 13, numbers 1 and 2; and the program itself

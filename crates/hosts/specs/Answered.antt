@@ -6,15 +6,15 @@ use Prim.Native.Nat.{_≤_, _<_}
 use mir.Syntax.{w64}
 use mir.Val.{SFits, toZ, ofZ}
 use mir.ValLaws.{toZ-ofZ}
-use lib.IntN.{ℤ, pos, negsuc}
+use lib.IntN.{ℤ, pos, negsuc, negℤ}
 use lib.Signed.{_≤ℤ_, _<ℤ_, leZ, ltZ}
 use borrow.Author.Tests.{not-false}
 use Rattle.whole.specs.Order.{ltZ-false, leZ-false}
 use Rattle.whole.specs.Whole.{whole}
 use Rattle.lists.specs.Plain.{within, toNat, positions, filter}
 use Rattle.lists.specs.Tests.{or-false, within-true}
-use Rattle.paper.specs.Descriptor.{cellOf}
-use Rattle.paper.specs.Answers.{answer, answerAt, badExtent, badCells, badPlace, badWindow, badCoordinate, farOff, judged}
+use Rattle.paper.specs.Descriptor.{cellOf, outsideCells}
+use Rattle.paper.specs.Answers.{answer, answerAt, badExtent, badStrides, badCells, badPlace, badWindow, badCoordinate, farOff, judged}
 use Rattle.paper.specs.Orders.{cellOrder}
 use Rattle.paper.specs.Words.{W}
 use Rattle.paper.specs.Corners.{weighed}
@@ -25,6 +25,8 @@ use Rattle.paper.specs.declared.Segment.{Segment}
 use Rattle.paper.specs.declared.Window.{Window}
 use Rattle.paper.specs.declared.Reply.{Reply}
 use Rattle.hosts.specs.declared.HostReply.{HostReply}
+use Rattle.promise.specs.Calls.{number-at-cell}
+use Rattle.table.specs.Cells.{Held}
 use Rattle.meeting.specs.Determined.{tested, decided, tested-is}
 
 -- the reply that a host gets, as `paper` has it
@@ -65,14 +67,19 @@ module _ (len : ℤ) (d : Descriptor) (i j : ℤ) {r : ℤ} where
   pub cell-3 : badExtent (d .extent) .given ≡ true → r ≡ negsuc 2 → r ≡ cellAnswer len d i j
   cell-3 a e = rw a e
 
-  pub cell-4 : badExtent (d .extent) .given ≡ false → badCells len d .given ≡ true → r ≡ negsuc 3 → r ≡ cellAnswer len d i j
+  pub cell-4 : badExtent (d .extent) .given ≡ false → badStrides d .given ≡ true → r ≡ negsuc 3 → r ≡ cellAnswer len d i j
   cell-4 a b e = rw (a, b) e
 
-  pub cell-11 : badExtent (d .extent) .given ≡ false → badCells len d .given ≡ false → badPlace (d .extent) i j .given ≡ true → r ≡ negsuc 10 → r ≡ cellAnswer len d i j
-  cell-11 a b c e = rw (a, b, c) e
+  -- here 12 has no place
+  pub cell-12 : badExtent (d .extent) .given ≡ false → badStrides d .given ≡ false → badCells len d .given ≡ true → r ≡ negsuc 11 → r ≡ cellAnswer len d i j
+  cell-12 a b c e = rw (a, b, c) (e ∙ ap (λ n. negℤ (pos n)) (sym (number-at-cell 12 (outsideCells len d))))
 
-  pub cell-0 : badExtent (d .extent) .given ≡ false → badCells len d .given ≡ false → badPlace (d .extent) i j .given ≡ false → r ≡ cellOf d (toNat i) (toNat j) → r ≡ cellAnswer len d i j
-  cell-0 a b c e = rw (a, b, c) e
+  module _ (h : Held len d) where
+    pub cell-11 : badPlace (d .extent) i j .given ≡ true → r ≡ negsuc 10 → r ≡ cellAnswer len d i j
+    cell-11 p e = rw (h .extent, h .strides, h .cells, p) e
+
+    pub cell-0 : badPlace (d .extent) i j .given ≡ false → r ≡ cellOf d (toNat i) (toNat j) → r ≡ cellAnswer len d i j
+    cell-0 p e = rw (h .extent, h .strides, h .cells, p) e
 
 -- a position and a coordinate that 11 does not refuse
 pub place-of : (n i j : ℤ) → badPlace n i j .given ≡ false → ((pos 0 ≤ℤ i) × (toNat i < toNat n)) × ((pos 0 ≤ℤ j) × (toNat j < 4))

@@ -19,7 +19,7 @@ pub struct HostReply {
     pub position: i64,
 }
 
-// ---- the cell of a position and coordinate: 3, 4, 11
+// ---- the cell of a position and coordinate: 3, 4, 12, 11
 
 // Answer 11: no such position or coordinate.
 fn bad_place(n: i64, position: i64, coordinate: i64) -> bool
@@ -34,8 +34,11 @@ fn cell_answer(length: i64, descriptor: Descriptor, position: i64, coordinate: i
     if table::bad_extent(descriptor.extent) {
         return -3;
     }
-    if table::bad_cells(length, descriptor) {
+    if table::bad_strides(descriptor) {
         return -4;
+    }
+    if table::bad_cells(length, descriptor) {
+        return -12;
     }
     if bad_place(descriptor.extent, position, coordinate) {
         return -11;

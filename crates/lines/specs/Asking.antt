@@ -24,7 +24,7 @@ use Rattle.paper.specs.Lines.{printed, tabbed, letter-A}
 use Rattle.paper.specs.declared.Segment.{Segment}
 use Rattle.paper.specs.declared.Window.{Window}
 use Rattle.table.specs.Cells.{rowOutside}
-use Rattle.table.specs.Rows.{cells-by}
+use Rattle.table.specs.Rows.{cells-are}
 use Rattle.table.specs.Segments.{length-segments, chosen-are}
 use Rattle.promise.specs.Index.{index-length}
 use Rattle.lines.specs.States.{descriptorOf, firstOf, segmentsIn, Fits}
@@ -105,11 +105,9 @@ module _ (t : Table) (cells : List ℤ) (fit : Fits t cells) where
 
     cells-good : badCells (pos (length cells)) (descriptorOf t) .given ≡ false
     cells-good =
-        sym
-        (cells-by (pos (length cells)) (descriptorOf t) refl
-        (sym
-        (any-none (rowOutside (pos (length cells)) (descriptorOf t)) (t .size)
-        (λ p h. any-none (λ j. outside (pos (length cells)) (cellOf (descriptorOf t) p j)) 4 (λ j k. cell-inside p j h k)))))
+        cells-are (pos (length cells)) (descriptorOf t)
+        ∙ any-none (rowOutside (pos (length cells)) (descriptorOf t)) (t .size)
+        (λ p h. any-none (λ j. outside (pos (length cells)) (cellOf (descriptorOf t) p j)) 4 (λ j k. cell-inside p j h k))
 
     pub built-done : (index : List ℤ) → length index ≡ 7684 → built cells (descriptorOf t) index ≡ (done (W (t .size)) 0, over (indexWords (firstOf t) (segmentsIn t cells)) index)
     unfolding built

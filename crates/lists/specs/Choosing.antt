@@ -16,7 +16,7 @@ use Rattle.lists.specs.Tests.{gate, clash, or-assoc, or-none, or-left, o
 use Rattle.lists.specs.Filters.{filter-none, filter-same}
 use Rattle.lists.specs.Counting.{filter-count, filter-length, count-le, count-at}
 use Rattle.lists.specs.Every.{All, Sorted, all-map, all-append}
-use Rattle.lists.specs.Positions.{positions-length, positions-count, positions-below}
+use Rattle.lists.specs.Positions.{positions-length, positions-count, positions-below, numbered-suc}
 
 -- ---- what is made of each position
 module _ {A : Type 0} where
@@ -152,6 +152,28 @@ module _ {q : ℕ → Bool} {n : ℕ} where
       go : Dec (r < n) → ltb r n ≡ any q (positions n)
       go (yes l) = lt-ltb r n l ∙ sym (any-some q n r l (s .here l))
       go (no l) = le-ltb r n (omega arith) ∙ sym (any-none q n (λ k h. s .before k (omega arith)))
+
+-- ---- numbered parts, one after the other: what passes in them, and where the first of it stands
+module _ {A : Type 0} (q : A → Bool) (part : ℕ → List A) where
+  part-suc : (n : ℕ) → filter q (joined (map part (positions (suc n)))) ≡ filter q (joined (map part (positions n))) ++ filter q (part n)
+  part-suc n = ap (filter q) (numbered-suc part n) ∙ filter-join q (joined (map part (positions n))) (part n)
+
+  pub parts-none : (n : ℕ) → ((k : ℕ) → k < n → filter q (part k) ≡ []) → filter q (joined (map part (positions n))) ≡ []
+  unfolding positions joined filter
+  parts-none zero h = refl
+  parts-none (suc n) h = part-suc n ∙ ap₂ (λ l m. l ++ m) (parts-none n (λ k l. h k (omega arith))) (h n (omega arith))
+
+  pub parts-first : (n r : ℕ) → r < n → ((k : ℕ) → k < r → filter q (part k) ≡ []) → (x : A) (xs : List A) → filter q (part r) ≡ x ∷ xs
+      → (rest : List A) × (filter q (joined (map part (positions n))) ≡ x ∷ rest)
+  parts-first zero r h b x xs e = absurd (not-suc-le-zero h)
+  parts-first (suc n) r h b x xs e = go (λ l. parts-first n r l b x xs e) (decLt r n)
+    where
+      go : (r < n → (rest : List A) × (filter q (joined (map part (positions n))) ≡ x ∷ rest)) → Dec (r < n)
+          → (rest : List A) × (filter q (joined (map part (positions (suc n)))) ≡ x ∷ rest)
+      go i (yes l) = let s = i l in (s .0 ++ filter q (part n), part-suc n ∙ ap (λ m. m ++ filter q (part n)) (s .1))
+      go i (no l) =
+          let here : r ≡ n = omega arith in
+          (xs, part-suc n ∙ ap₂ (λ l m. l ++ m) (parts-none n (λ k g. b k (omega arith))) (ap (λ k. filter q (part k)) (sym here) ∙ e))
 
 -- ---- how often a number is among those that pass: once if it is a position and passes, otherwise never
 pub count-chosen : (q : ℕ → Bool) (n p : ℕ) → count (eqb p) (filter q (positions n)) ≡ gate (q p) (gate (ltb p n) 1)

@@ -1,4 +1,4 @@
--- What the public builder gives along its order 1, 2, 3, 4, 7, 5, 6, and that the words are an index, as what it promises where it is done.
+-- What the public builder gives along its order 1, 2, 3, 4, 12, 7, 5, 6, and that the words are an index, as what it promises where it is done.
 use mathlib.Core.Path.{_≡_, sym, ap, ap₂, subst, _∙_}
 use mathlib.Core.Bool.{true, false}
 use mathlib.Core.List.{List, [], _∷_}
@@ -45,28 +45,28 @@ module _ (table : List ℤ) (d : Descriptor) (index : List ℤ) where
   abbrev after : List Answer
   after = badBuffer (W (sizeOf d)) (length index) ∷ limits
 
-  pub by-table : {r : Reply} (number : ℕ) → number ≡ firstGiven (tableOrder table d) → (number ≡ 0 → ⊥) → r ≡ refused (refusalAt number 0) → Given (r, index)
+  pub by-table : {r : Reply} (other : Reply) → (firstGiven (tableOrder table d) ≡ 0 → ⊥) → r ≡ judged (tableOrder table d) refused other → Given (r, index)
   unfolding built
-  by-table number e n h = gives (ap (λ x. (x, index)) h ∙ table-given table d after index answer number e n)
+  by-table other n h = gives (ap (λ x. (x, index)) h ∙ table-given table d after index answer other n)
 
   module _ (p : firstGiven (tableOrder table d) ≡ 0) where
     onward : {r : Result} → r ≡ judged after (refuse index) answer → Given r
     unfolding built
     onward e = gives (e ∙ table-left table d after index answer p)
 
-    pub by-room : {r : Reply} → ltb (length index) (W (sizeOf d)) ≡ true → r ≡ refused (refusalAt 7 0) → Given (r, index)
+    pub by-room : {r : Reply} → ltb (length index) (W (sizeOf d)) ≡ true → r ≡ refused (refusalAt 7 0 0) → Given (r, index)
     by-room g e = onward (refuses (badBuffer (W (sizeOf d)) (length index)) limits (refuse index) answer g (ap (λ x. (x, index)) e))
 
     module _ (g : ltb (length index) (W (sizeOf d)) ≡ false) where
       roomy : {r : Result} → r ≡ judged limits (refuse index) answer → Given r
       roomy e = onward (passes (badBuffer (W (sizeOf d)) (length index)) limits (refuse index) answer g e)
 
-      pub by-far : {r : Reply} (place : ℕ) → badCoordinate (segmentsOf d table) ≡ refusalAt 5 place → r ≡ refused (refusalAt 5 place) → Given (r, index)
+      pub by-far : {r : Reply} (place : ℕ) → badCoordinate (segmentsOf d table) ≡ refusalAt 5 0 place → r ≡ refused (refusalAt 5 0 place) → Given (r, index)
       by-far place k e =
           roomy (refuses (badCoordinate (segmentsOf d table)) last (refuse index) answer (ap (λ x. x .given) k) (ap (λ x. (x, index)) (e ∙ ap refused (sym k))))
 
       module _ (h : badCoordinate (segmentsOf d table) .given ≡ false) where
-        pub by-slant : {r : Reply} (place : ℕ) → badSlant (segmentsOf d table) ≡ refusalAt 6 place → r ≡ refused (refusalAt 6 place) → Given (r, index)
+        pub by-slant : {r : Reply} (place : ℕ) → badSlant (segmentsOf d table) ≡ refusalAt 6 0 place → r ≡ refused (refusalAt 6 0 place) → Given (r, index)
         by-slant place k e =
             roomy (passes (badCoordinate (segmentsOf d table)) last (refuse index) answer h
             (refuses (badSlant (segmentsOf d table)) [] (refuse index) answer (ap (λ x. x .given) k) (ap (λ x. (x, index)) (e ∙ ap refused (sym k)))))

@@ -1,37 +1,43 @@
--- The outcome of an order of refusals: the four tests of a table that stand first in every order over one, and an answer that is 0 only where nothing was refused.
+-- The outcome of an order of refusals: the five tests of a table that stand first in every order over one, and an answer that is 0 only where nothing was refused.
 use mathlib.Core.Path.{_≡_, refl, sym, ap, _∙_}
 use mathlib.Core.Bool.{Bool, true, false, _||_, cond}
 use mathlib.Core.List.{List, [], _∷_, _++_}
 use Prim.Native.Nat.{ℕ, _≤_, _<_}
 use native.Mathlib.Omega.{arith}
 use borrow.Author.Tests.{lt-ltb, le-ltb}
-use lib.Dec.{eqb}
+use lib.Dec.{eqb, ltb}
 use lib.IntN.{ℤ, pos}
 use lib.ListN.{length}
-use Rattle.whole.specs.Whole.{whole}
-use Rattle.lists.specs.Tests.{by-test}
+use Rattle.lists.specs.Tests.{by-test, clash}
 use Rattle.lists.specs.Every.{All}
-use Rattle.paper.specs.Answers.{Answer, answer, answerAt, badKind, badLower, badExtent, badCells, badCoordinate, badSlant, judged, refused}
+use Rattle.paper.specs.Answers.{Answer, answer, badKind, badLower, badExtent, badStrides, badCells, badCoordinate, badSlant, judged, refused}
 use Rattle.paper.specs.Results.{Result}
+use Rattle.paper.specs.Descriptor.{outsideCells}
 use Rattle.paper.specs.declared.Descriptor.{Descriptor}
+use Rattle.paper.specs.declared.Reply.{Reply}
 use Rattle.paper.specs.declared.Segment.{Segment}
-use Rattle.table.specs.Cells.{foundAt}
+use Rattle.promise.specs.Calls.{not-judged, none-refused, number-at-cell, table-numbered}
+use Rattle.table.specs.Cells.{Held, foundAt, outsideAt}
 
--- the answers that carry a place: 5 and 6, the position sought
+-- the answers that carry a place: 5 and 6, the position sought, and 12, that of the cell
 abbrev pub carriesPlace : ℕ → Bool
-carriesPlace number = eqb number 5 || eqb number 6
+carriesPlace number = eqb number 5 || eqb number 6 || eqb number 12
 
--- a refusal by its number; the place is returned where the answer carries one
-abbrev pub refusalAt : ℕ → ℕ → Answer
-refusalAt number place = record { number = number; given = true; count = 0; position = cond (carriesPlace number) place 0 }
+-- the answers that carry a count: 12, the coordinate of the cell
+abbrev pub carriesCount : ℕ → Bool
+carriesCount number = eqb number 12
+
+-- a refusal by its number; count and place are returned where the answer carries them
+abbrev pub refusalAt : ℕ → ℕ → ℕ → Answer
+refusalAt number count place = record { number = number; given = true; count = cond (carriesCount number) count 0; position = cond (carriesPlace number) place 0 }
 
 -- the number of the first answer that is given, 0 where none is
 abbrev pub firstGiven : List Answer → ℕ
 firstGiven xs = judged xs (λ x. x .number) 0
 
--- the tests that stand first in each order over a table: 1, 2, 3, 4
+-- the tests that stand first in each order over a table: 1, 2, 3, 4, 12
 abbrev pub tableOrder : List ℤ → Descriptor → List Answer
-tableOrder table d = badKind (d .kind) ∷ badLower (d .kind) (d .lower) ∷ badExtent (d .extent) ∷ badCells (pos (length table)) d ∷ []
+tableOrder table d = badKind (d .kind) ∷ badLower (d .kind) (d .lower) ∷ badExtent (d .extent) ∷ badStrides d ∷ badCells (pos (length table)) d ∷ []
 
 -- the answer that is sought over the segments: 5, or else 6
 abbrev pub badSegment : ℕ → List Segment → Answer
@@ -48,43 +54,32 @@ module _ {A : Type 0} (x : Answer) (rest : List Answer) (f : Answer → A) (done
 
 -- ---- tests that an order begins with
 
--- an answer that returns nothing but its number
-pub record Bare (x : Answer) : Type 0 where
-  pub numbered : 1 ≤ x .number
-  pub shown : refused x ≡ refused (refusalAt (x .number) 0)
-
-bare-given : (number : ℕ) (given : Bool) → 1 ≤ number → refused (answer number given) ≡ refused (refusalAt number 0) → Bare (answer number given)
-bare-given number given h e = record { numbered = h; shown = e }
-
 -- the number 0 says that none is given
-none-given : {xs : List Answer} → All Bare xs → firstGiven xs ≡ 0 → All (λ x. x .given ≡ false) xs
+none-given : {xs : List Answer} → All (λ x. 1 ≤ x .number) xs → firstGiven xs ≡ 0 → All (λ x. x .given ≡ false) xs
 none-given All.none e = All.none
-none-given (All.also {x = x} {l = xs} b bs) e = by-test (x .given) (λ t. absurd (never t)) (λ t. All.also t (none-given bs (onward t)))
+none-given (All.also {x = x} {l = xs} h hs) e = by-test (x .given) (λ t. absurd (never t)) (λ t. All.also t (none-given hs (onward t)))
   where
     onward : x .given ≡ false → firstGiven xs ≡ 0
     onward t = sym (ap (λ g. cond g (x .number) (firstGiven xs)) t) ∙ e
 
     never : x .given ≡ true → ⊥
-    never t = omega (arith, b .numbered, sym (ap (λ g. cond g (x .number) (firstGiven xs)) t) ∙ e)
+    never t = omega (arith, h, sym (ap (λ g. cond g (x .number) (firstGiven xs)) t) ∙ e)
 
 -- a refusal, and the cells as they were
 abbrev pub refuse : List ℤ → Answer → Result
 refuse cells x = (refused x, cells)
 
 module _ (rest : List Answer) (cells : List ℤ) (done : Result) where
-  -- another number is that of the refusal
-  first-given : {xs : List Answer} (r : ℕ) → All Bare xs → r ≡ firstGiven xs → (r ≡ 0 → ⊥) → refuse cells (refusalAt r 0) ≡ judged (xs ++ rest) (refuse cells) done
-  first-given r All.none e n = absurd (n e)
-  first-given r (All.also {x = x} {l = xs} b bs) e n =
-      by-test (x .given)
-      (λ t. refuses x (xs ++ rest) (refuse cells) done t (ap (λ k. refuse cells (refusalAt k 0)) (chosen t) ∙ ap (λ y. (y, cells)) (sym (b .shown))))
-      (λ t. passes x (xs ++ rest) (refuse cells) done t (first-given r bs (left t) n))
+  -- where one of them is given it decides
+  first-decides : (xs : List Answer) (other : Reply) → (firstGiven xs ≡ 0 → ⊥) → (judged xs refused other, cells) ≡ judged (xs ++ rest) (refuse cells) done
+  first-decides [] other n = absurd (n refl)
+  first-decides (x ∷ xs) other n = go (x .given) (first-decides xs other) n
     where
-      chosen : x .given ≡ true → r ≡ x .number
-      chosen t = e ∙ ap (λ g. cond g (x .number) (firstGiven xs)) t
-
-      left : x .given ≡ false → r ≡ firstGiven xs
-      left t = e ∙ ap (λ g. cond g (x .number) (firstGiven xs)) t
+      go : (b : Bool) → ((firstGiven xs ≡ 0 → ⊥) → (judged xs refused other, cells) ≡ judged (xs ++ rest) (refuse cells) done)
+          → (cond b (x .number) (firstGiven xs) ≡ 0 → ⊥)
+          → (cond b (refused x) (judged xs refused other), cells) ≡ cond b (refuse cells x) (judged (xs ++ rest) (refuse cells) done)
+      go true f n = refl
+      go false f n = f n
 
   -- where none is given the others decide
   others-decide : {xs : List Answer} → All (λ x. x .given ≡ false) xs → judged rest (refuse cells) done ≡ judged (xs ++ rest) (refuse cells) done
@@ -94,29 +89,78 @@ module _ (rest : List Answer) (cells : List ℤ) (done : Result) where
 -- ---- an order over a table
 
 module _ (table : List ℤ) (d : Descriptor) where
-  all-bare : All Bare (tableOrder table d)
-  all-bare =
-      All.also (bare-given 1 (badKind (d .kind) .given) (omega arith) refl)
-      (All.also (bare-given 2 (badLower (d .kind) (d .lower) .given) (omega arith) refl)
-      (All.also (bare-given 3 (badExtent (d .extent) .given) (omega arith) refl)
-      (All.also (bare-given 4 (badCells (pos (length table)) d .given) (omega arith) refl) All.none)))
+  abbrev cells12 : Answer
+  cells12 = badCells (pos (length table)) d
 
-  -- a table that passes the first four tests
-  pub table-pass : firstGiven (tableOrder table d) ≡ 0
-      → (badKind (d .kind) .given ≡ false) × (badLower (d .kind) (d .lower) .given ≡ false) × (badExtent (d .extent) .given ≡ false) × (badCells (pos (length table)) d .given ≡ false)
-  table-pass e = go (none-given all-bare e)
+  all-numbered : All (λ x. 1 ≤ x .number) (tableOrder table d)
+  all-numbered = table-numbered (pos (length table)) d All.none
+
+  -- a table that passes the first five tests
+  pub record Passed : Type 0 where
+    pub kind : badKind (d .kind) .given ≡ false
+    pub lower : badLower (d .kind) (d .lower) .given ≡ false
+    pub held : Held (pos (length table)) d
+
+  pub table-pass : firstGiven (tableOrder table d) ≡ 0 → Passed
+  table-pass e = go (none-given all-numbered e)
     where
-      go : {x y z u : Answer} → All (λ x. x .given ≡ false) (x ∷ y ∷ z ∷ u ∷ []) → (x .given ≡ false) × (y .given ≡ false) × (z .given ≡ false) × (u .given ≡ false)
-      go (All.also p (All.also q (All.also r (All.also s All.none)))) = (p, q, r, s)
+      go : All (λ x. x .given ≡ false) (tableOrder table d) → Passed
+      go (All.also p (All.also q (All.also r (All.also s (All.also t All.none))))) = record { kind = p; lower = q; held = record { extent = r; strides = s; cells = t } }
+
+  -- the reply to a table that one of the five refuses: 12 has its place and count, the others have none
+  module _ (number : ℕ) (e : number ≡ firstGiven (tableOrder table d)) where
+    abbrev five : (k l n s : Bool) → List Answer
+    five k l n s = answer 1 k ∷ answer 2 l ∷ answer 3 n ∷ answer 4 s ∷ cells12 ∷ []
+
+    twelve : cells12 .number ≡ 12
+    twelve = number-at-cell 12 (outsideCells (pos (length table)) d)
+
+    pub outside-given : number ≡ 12 → (badExtent (d .extent) .given ≡ false) × (badStrides d .given ≡ false) × (cells12 .given ≡ true)
+    outside-given h = go (badKind (d .kind) .given) (badLower (d .kind) (d .lower) .given) (badExtent (d .extent) .given) (badStrides d .given) (cells12 .given) (sym h ∙ e)
+      where
+        go : (k l n s c : Bool) → 12 ≡ cond k 1 (cond l 2 (cond n 3 (cond s 4 (cond c (cells12 .number) 0)))) → (n ≡ false) × (s ≡ false) × (c ≡ true)
+        go true l n s c q = absurd (omega (arith, q))
+        go false true n s c q = absurd (omega (arith, q))
+        go false false true s c q = absurd (omega (arith, q))
+        go false false false true c q = absurd (omega (arith, q))
+        go false false false false true q = (refl, refl, refl)
+        go false false false false false q = absurd (omega (arith, q))
+
+    pub by-outside : (other : Reply) → number ≡ 12 → refused cells12 ≡ judged (tableOrder table d) refused other
+    by-outside other h = go (badKind (d .kind) .given) (badLower (d .kind) (d .lower) .given) (badExtent (d .extent) .given) (badStrides d .given) (cells12 .given) (sym h ∙ e)
+      where
+        go : (k l n s c : Bool) → 12 ≡ cond k 1 (cond l 2 (cond n 3 (cond s 4 (cond c (cells12 .number) 0))))
+            → refused cells12 ≡ cond k (refused (answer 1 k)) (cond l (refused (answer 2 l)) (cond n (refused (answer 3 n)) (cond s (refused (answer 4 s)) (cond c (refused cells12) other))))
+        go true l n s c q = absurd (omega (arith, q))
+        go false true n s c q = absurd (omega (arith, q))
+        go false false true s c q = absurd (omega (arith, q))
+        go false false false true c q = absurd (omega (arith, q))
+        go false false false false true q = refl
+        go false false false false false q = absurd (omega (arith, q))
+
+    pub by-others : (other : Reply) → (number ≡ 0 → ⊥) → (number ≡ 12 → ⊥) → refused (refusalAt number 0 0) ≡ judged (tableOrder table d) refused other
+    by-others other z h = ap (λ m. refused (refusalAt m 0 0)) e ∙ go (badKind (d .kind) .given) (badLower (d .kind) (d .lower) .given) (badExtent (d .extent) .given) (badStrides d .given) (cells12 .given) (λ q. z (e ∙ q)) (λ q. h (e ∙ q))
+      where
+        go : (k l n s c : Bool)
+            → (cond k 1 (cond l 2 (cond n 3 (cond s 4 (cond c (cells12 .number) 0)))) ≡ 0 → ⊥)
+            → (cond k 1 (cond l 2 (cond n 3 (cond s 4 (cond c (cells12 .number) 0)))) ≡ 12 → ⊥)
+            → refused (refusalAt (cond k 1 (cond l 2 (cond n 3 (cond s 4 (cond c (cells12 .number) 0))))) 0 0)
+            ≡ cond k (refused (answer 1 k)) (cond l (refused (answer 2 l)) (cond n (refused (answer 3 n)) (cond s (refused (answer 4 s)) (cond c (refused cells12) other))))
+        go true l n s c q u = refl
+        go false true n s c q u = refl
+        go false false true s c q u = refl
+        go false false false true c q u = refl
+        go false false false false true q u = absurd (u twelve)
+        go false false false false false q u = absurd (q refl)
 
   module _ (rest : List Answer) (cells : List ℤ) (done : Result) where
-    -- one of the four refuses
-    pub table-given : (r : ℕ) → r ≡ firstGiven (tableOrder table d) → (r ≡ 0 → ⊥) → refuse cells (refusalAt r 0) ≡ judged (tableOrder table d ++ rest) (refuse cells) done
-    table-given r e n = first-given rest cells done r all-bare e n
+    -- one of the five refuses
+    pub table-given : (other : Reply) → (firstGiven (tableOrder table d) ≡ 0 → ⊥) → (judged (tableOrder table d) refused other, cells) ≡ judged (tableOrder table d ++ rest) (refuse cells) done
+    table-given other n = first-decides rest cells done (tableOrder table d) other n
 
     -- none does
     pub table-left : firstGiven (tableOrder table d) ≡ 0 → judged rest (refuse cells) done ≡ judged (tableOrder table d ++ rest) (refuse cells) done
-    table-left e = others-decide rest cells done (none-given all-bare e)
+    table-left e = others-decide rest cells done (none-given all-numbered e)
 
 -- the answer that is sought over a table, as it was found
 pub found-at : {x : Answer} (number n p : ℕ) → p < n → x ≡ foundAt number n p → x ≡ record { number = number; given = true; count = 0; position = p }
@@ -125,22 +169,16 @@ found-at number n p l e = e ∙ ap (λ b. cond b (record { number = number; give
 pub found-none : {x : Answer} (number n p : ℕ) → n ≤ p → x ≡ foundAt number n p → x .given ≡ false
 found-none number n p l e = ap (λ y. y .given) (e ∙ ap (λ b. cond b (record { number = number; given = true; count = 0; position = p }) (answer number false)) (le-ltb p n l))
 
+-- the cell outside, as it was found
+pub outside-at : {x : Answer} (n i j : ℕ) → x ≡ outsideAt n i j → x .given ≡ true → x ≡ refusalAt 12 j i
+outside-at n i j e g = e ∙ go (ltb i n) (sym (ap (λ y. y .given) e) ∙ g)
+  where
+    go : (b : Bool) → cond b (record { number = 12; given = true; count = j; position = i }) (answer 12 false) .given ≡ true
+        → cond b (record { number = 12; given = true; count = j; position = i }) (answer 12 false) ≡ refusalAt 12 j i
+    go true h = refl
+    go false h = clash (sym h)
+
 -- ---- the number 0 is returned only where nothing was refused
 pub zero-done : {xs : List Answer} (cells : List ℤ) (done : Result) → All (λ x. 1 ≤ x .number) xs
     → judged xs (refuse cells) done .0 .number ≡ pos 0 → judged xs (refuse cells) done ≡ done
-zero-done cells done All.none e = refl
-zero-done cells done (All.also {x = x} {l = xs} h k) e = go (x .given) (zero-done cells done k) e
-  where
-    rest : Result
-    rest = judged xs (refuse cells) done
-
-    go : (b : Bool) → (rest .0 .number ≡ pos 0 → rest ≡ done) → cond b (refuse cells x) rest .0 .number ≡ pos 0 → cond b (refuse cells x) rest ≡ done
-    go true f q = absurd (never (x .number) h q)
-      where
-        never : (n : ℕ) → 1 ≤ n → pos n ≡ pos 0 → ⊥
-        never n h q = omega whole
-    go false f q = f q
-
-pub at-number : (number : ℕ) (ps : List ℕ) → answerAt number ps .number ≡ number
-at-number number [] = refl
-at-number number (p ∷ ps) = refl
+zero-done {xs} cells done h e = not-judged xs (refuse cells) done (none-refused cells done h e)

@@ -25,17 +25,17 @@ module _ (ws : List ℤ) (w : Window) (numbers : List ℤ) where
   pub with-promise : {r : Result} → r ≡ queried ws w numbers → (r ≡ queried ws w numbers) × QueryPromises ws w numbers r
   with-promise e = (e, λ first segments index good room. subst (QueryPromise first segments w) (sym e) (query-promise first segments w ws numbers index good room))
 
-  pub index-refused : badIndex ws .given ≡ true → (refused (refusalAt 9 0), numbers) ≡ queried ws w numbers
+  pub index-refused : badIndex ws .given ≡ true → (refused (refusalAt 9 0 0), numbers) ≡ queried ws w numbers
   unfolding queried
   index-refused e = rw e
 
   module _ (e9 : badIndex ws .given ≡ false) where
-    pub window-refused : badWindow w .given ≡ true → (refused (refusalAt 8 0), numbers) ≡ queried ws w numbers
+    pub window-refused : badWindow w .given ≡ true → (refused (refusalAt 8 0 0), numbers) ≡ queried ws w numbers
     unfolding queried
     window-refused e = rw (e9, e)
 
     module _ (e8 : badWindow w .given ≡ false) where
-      pub buffer-refused : length numbers < sizeIn ws → (refused (refusalAt 7 0), numbers) ≡ queried ws w numbers
+      pub buffer-refused : length numbers < sizeIn ws → (refused (refusalAt 7 0 0), numbers) ≡ queried ws w numbers
       unfolding queried
       buffer-refused h = rw (e9, e8, lt-ltb (length numbers) (sizeIn ws) h)
 
@@ -51,7 +51,7 @@ module _ (ws : List ℤ) (w : Window) (numbers : List ℤ) where
 
         -- only 10 is left to be judged
         last : queried ws w numbers
-            ≡ cond (isStopped (walkOf ws w)) (refused (refusalAt 10 0), over (replicate (sizeIn ws) (pos 0)) numbers) (listing (word ws 1) numbers (walkOf ws w))
+            ≡ cond (isStopped (walkOf ws w)) (refused (refusalAt 10 0 0), over (replicate (sizeIn ws) (pos 0)) numbers) (listing (word ws 1) numbers (walkOf ws w))
         unfolding queried
         last = rw (e9, e8, le-ltb (length numbers) (sizeIn ws) room)
 
@@ -61,11 +61,11 @@ module _ (ws : List ℤ) (w : Window) (numbers : List ℤ) where
         spoilt stopped t cells g h = (refl, g .1)
 
         pub walk-refused : (t : Tally) (cells : List ℤ) → Given (sizeIn ws) (word ws 1) numbers (walkOf ws w) t cells → 0 < t .stopped
-            → (c : List ℤ) → c ≡ put 0 (replicate (sizeIn ws) (pos 0)) cells → (refused (refusalAt 10 0), c) ≡ queried ws w numbers
+            → (c : List ℤ) → c ≡ put 0 (replicate (sizeIn ws) (pos 0)) cells → (refused (refusalAt 10 0 0), c) ≡ queried ws w numbers
         walk-refused t cells g h c e =
             let s = spoilt (walkOf ws w) t cells g h in
-            ap (λ (x : List ℤ). (refused (refusalAt 10 0), x)) (cleared cells c e (s .1))
-            ∙ sym (last ∙ ap (λ (b : Bool). cond b (refused (refusalAt 10 0), over (replicate (sizeIn ws) (pos 0)) numbers) (listing (word ws 1) numbers (walkOf ws w))) (s .0))
+            ap (λ (x : List ℤ). (refused (refusalAt 10 0 0), x)) (cleared cells c e (s .1))
+            ∙ sym (last ∙ ap (λ (b : Bool). cond b (refused (refusalAt 10 0 0), over (replicate (sizeIn ws) (pos 0)) numbers) (listing (word ws 1) numbers (walkOf ws w))) (s .0))
 
         whole : (o : Walked) (t : Tally) (cells : List ℤ) → Given (sizeIn ws) (word ws 1) numbers o t cells → t .stopped ≤ 0
             → (isStopped o ≡ false) × ((done (t .listed) (t .visits), cells) ≡ listing (word ws 1) numbers o) × (t .listed ≤ sizeIn ws)
@@ -86,4 +86,4 @@ module _ (ws : List ℤ) (w : Window) (numbers : List ℤ) where
           pub walk-done : (done (t .listed) (t .visits), cells) ≡ queried ws w numbers
           walk-done =
               let s = whole (walkOf ws w) t cells g h in
-              s .1 ∙ sym (last ∙ ap (λ (b : Bool). cond b (refused (refusalAt 10 0), over (replicate (sizeIn ws) (pos 0)) numbers) (listing (word ws 1) numbers (walkOf ws w))) (s .0))
+              s .1 ∙ sym (last ∙ ap (λ (b : Bool). cond b (refused (refusalAt 10 0 0), over (replicate (sizeIn ws) (pos 0)) numbers) (listing (word ws 1) numbers (walkOf ws w))) (s .0))

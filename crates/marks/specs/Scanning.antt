@@ -1,4 +1,4 @@
--- What the public scan gives along its order 1, 2, 3, 4, 8, 7, 5, and demand 2 as what it promises where it is done.
+-- What the public scan gives along its order 1, 2, 3, 4, 12, 8, 7, 5, and demand 2 as what it promises where it is done.
 use mathlib.Core.Path.{_≡_, sym, ap, ap₂, _∙_}
 use mathlib.Core.Bool.{Bool, true, false}
 use mathlib.Core.List.{List, [], _∷_}
@@ -10,7 +10,7 @@ use lib.ListN.{length, drop, length-map}
 use lib.Seq.{take-at}
 use Rattle.lists.specs.Every.{All}
 use Rattle.paper.specs.Descriptor.{firstNumber, numberOf, sizeOf, segmentsOf}
-use Rattle.paper.specs.Answers.{Answer, badKind, badLower, badExtent, badCells, badWindow, badBuffer, badCoordinate, farOff, positionsOf, judged, refused, done}
+use Rattle.paper.specs.Answers.{Answer, badWindow, badBuffer, badCoordinate, positionsOf, judged, refused, done}
 use Rattle.paper.specs.Orders.{scanOrder}
 use Rattle.paper.specs.Results.{Result, over, numbersOf, scanned, Scanned}
 use Rattle.paper.specs.Demands.{listedBy, ScanPromise}
@@ -21,7 +21,8 @@ use Rattle.paper.specs.declared.Reply.{Reply}
 use Rattle.meeting.specs.Determined.{tested, decided, tested-is}
 use Rattle.scan.specs.Listing.{metPositions, metNumbers}
 use Rattle.scan.specs.Promise.{lists-numbers, ascending}
-use Rattle.marks.specs.Orders.{refusalAt, refuse, firstGiven, tableOrder, table-given, table-left, refuses, passes, zero-done, at-number}
+use Rattle.promise.specs.Calls.{table-numbered, far-numbered}
+use Rattle.marks.specs.Orders.{refusalAt, refuse, firstGiven, tableOrder, table-given, table-left, refuses, passes, zero-done}
 
 -- ---- demand 2, of any scan that `paper` allows
 module _ (table : List ℤ) (d : Descriptor) (w : Window) (numbers : List ℤ) where
@@ -39,13 +40,10 @@ module _ (table : List ℤ) (d : Descriptor) (w : Window) (numbers : List ℤ) w
 
   all-numbered : All (λ x. 1 ≤ x .number) (scanOrder table d w numbers)
   all-numbered =
-      All.also {x = badKind (d .kind)} (omega arith)
-      (All.also {x = badLower (d .kind) (d .lower)} (omega arith)
-      (All.also {x = badExtent (d .extent)} (omega arith)
-      (All.also {x = badCells (pos (length table)) d} (omega arith)
+      table-numbered (pos (length table)) d
       (All.also {x = badWindow w} (omega arith)
       (All.also {x = badBuffer (sizeOf d) (length numbers)} (omega arith)
-      (All.also {x = badCoordinate (segmentsOf d table)} (rw (at-number 5 (positionsOf farOff (segmentsOf d table))) (omega arith)) All.none))))))
+      (All.also {x = badCoordinate (segmentsOf d table)} (far-numbered (segmentsOf d table)) All.none)))
 
   pub scan-promise : (r : Result) → Scanned table d w numbers r → r .0 .number ≡ pos 0 → ScanPromise table d w r
   unfolding scanned
@@ -74,26 +72,26 @@ module _ (table : List ℤ) (d : Descriptor) (w : Window) (numbers : List ℤ) w
   abbrev after : List Answer
   after = badWindow w ∷ room
 
-  pub by-table : {r : Reply} (number : ℕ) → number ≡ firstGiven (tableOrder table d) → (number ≡ 0 → ⊥) → r ≡ refused (refusalAt number 0) → Given (r, numbers)
+  pub by-table : {r : Reply} (other : Reply) → (firstGiven (tableOrder table d) ≡ 0 → ⊥) → r ≡ judged (tableOrder table d) refused other → Given (r, numbers)
   unfolding scanned
-  by-table number e n h = gives (ap (λ x. (x, numbers)) h ∙ table-given table d after numbers (listing (tested w)) number e n)
+  by-table other n h = gives (ap (λ x. (x, numbers)) h ∙ table-given table d after numbers (listing (tested w)) other n)
 
   module _ (p : firstGiven (tableOrder table d) ≡ 0) where
     onward : {r : Result} → r ≡ judged after (refuse numbers) (listing (tested w)) → Given r
     unfolding scanned
     onward e = gives (e ∙ table-left table d after numbers (listing (tested w)) p)
 
-    pub by-window : {r : Reply} → badWindow w .given ≡ true → r ≡ refused (refusalAt 8 0) → Given (r, numbers)
+    pub by-window : {r : Reply} → badWindow w .given ≡ true → r ≡ refused (refusalAt 8 0 0) → Given (r, numbers)
     by-window g e = onward (refuses (badWindow w) room (refuse numbers) (listing (tested w)) g (ap (λ x. (x, numbers)) e))
 
     module _ (g : badWindow w .given ≡ false) where
-      pub by-room : {r : Reply} → ltb (length numbers) (sizeOf d) ≡ true → r ≡ refused (refusalAt 7 0) → Given (r, numbers)
+      pub by-room : {r : Reply} → ltb (length numbers) (sizeOf d) ≡ true → r ≡ refused (refusalAt 7 0 0) → Given (r, numbers)
       by-room h e =
           onward (passes (badWindow w) room (refuse numbers) (listing (tested w)) g
           (refuses (badBuffer (sizeOf d) (length numbers)) last (refuse numbers) (listing (tested w)) h (ap (λ x. (x, numbers)) e)))
 
       module _ (h : ltb (length numbers) (sizeOf d) ≡ false) where
-        pub by-far : {r : Reply} (place : ℕ) → badCoordinate (segmentsOf d table) ≡ refusalAt 5 place → r ≡ refused (refusalAt 5 place) → Given (r, numbers)
+        pub by-far : {r : Reply} (place : ℕ) → badCoordinate (segmentsOf d table) ≡ refusalAt 5 0 place → r ≡ refused (refusalAt 5 0 place) → Given (r, numbers)
         by-far place k e =
             onward (passes (badWindow w) room (refuse numbers) (listing (tested w)) g
             (passes (badBuffer (sizeOf d) (length numbers)) last (refuse numbers) (listing (tested w)) h

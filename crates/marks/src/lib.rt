@@ -10,7 +10,7 @@ use paper::Window;
 
 mod refusals;
 
-// The numbers of the segments that meet a window, ascending, into the first cells; order 1, 2, 3, 4, 8, 7, 5.
+// The numbers of the segments that meet a window, ascending, into the first cells; order 1, 2, 3, 4, 12, 8, 7, 5.
 // Answer 0 promises that the number of each meeting segment is listed once, that nothing else is, and that the numbers ascend.
 pub fn scan(table: &[i32], descriptor: Descriptor, window: Window, numbers: &mut [i32]) -> Reply
     ensures { λ r. ⌜ Scanned (now (table .entry)) descriptor window (now (numbers .entry)) (r, now (numbers .exit)) ⌝ }
@@ -18,24 +18,24 @@ pub fn scan(table: &[i32], descriptor: Descriptor, window: Window, numbers: &mut
 {
     let number = refusals::of_table(table, descriptor);
     if number != 0 {
-        return refusals::refusal(number, 0);
+        return refusals::table_refusal(number, table, descriptor);
     }
     if meeting::bad_window(window) {
-        return refusals::refusal(8, 0);
+        return refusals::refusal(8, 0, 0);
     }
     let n = table::count(descriptor);
     if numbers.len() < n {
-        return refusals::refusal(7, 0);
+        return refusals::refusal(7, 0, 0);
     }
     let far = table::first_far(table, descriptor, n);
     if far < n {
-        return refusals::refusal(5, far);
+        return refusals::refusal(5, 0, far);
     }
     let count = scan::list(table, descriptor, window, numbers);
     refusals::done(count, 0)
 }
 
-// The words of the index of a table of horizontal and vertical segments, into the first words; order 1, 2, 3, 4, 7, 5, 6.
+// The words of the index of a table of horizontal and vertical segments, into the first words; order 1, 2, 3, 4, 12, 7, 5, 6.
 // Answer 0 promises that the words are the index of the table's segments, whatever stands after them: what a query asks.
 pub fn build(table: &[i32], descriptor: Descriptor, index: &mut [i32]) -> Reply
     ensures { λ r. ⌜ (r, now (index .exit)) ≡ built (now (table .entry)) descriptor (now (index .entry)) ⌝ }
@@ -43,20 +43,20 @@ pub fn build(table: &[i32], descriptor: Descriptor, index: &mut [i32]) -> Reply
 {
     let number = refusals::of_table(table, descriptor);
     if number != 0 {
-        return refusals::refusal(number, 0);
+        return refusals::table_refusal(number, table, descriptor);
     }
     let n = table::count(descriptor);
     let words = table::words(n);
     if index.len() < words {
-        return refusals::refusal(7, 0);
+        return refusals::refusal(7, 0, 0);
     }
     let far = refusals::first_bad(5, table, descriptor, n);
     if far < n {
-        return refusals::refusal(5, far);
+        return refusals::refusal(5, 0, far);
     }
     let slanted = refusals::first_bad(6, table, descriptor, n);
     if slanted < n {
-        return refusals::refusal(6, slanted);
+        return refusals::refusal(6, 0, slanted);
     }
     builder::build_words(table, descriptor, index);
     refusals::done(words, 0)
@@ -69,19 +69,19 @@ pub fn query(words: &[i32], window: Window, numbers: &mut [i32]) -> Reply
     ensures promise { λ r. ⌜ QueryPromises (now (words .entry)) window (now (numbers .entry)) (r, now (numbers .exit)) ⌝ }
 {
     if walk::bad_index(words) {
-        return refusals::refusal(9, 0);
+        return refusals::refusal(9, 0, 0);
     }
     if meeting::bad_window(window) {
-        return refusals::refusal(8, 0);
+        return refusals::refusal(8, 0, 0);
     }
     let n = tally::whole_at(words, 0, 0);
     if numbers.len() < n {
-        return refusals::refusal(7, 0);
+        return refusals::refusal(7, 0, 0);
     }
     let tally = walk::walk(words, window, numbers);
     if 0 < tally.stopped {
         records::clear(numbers, 0, n);
-        return refusals::refusal(10, 0);
+        return refusals::refusal(10, 0, 0);
     }
     refusals::done(tally.listed, tally.visits)
 }

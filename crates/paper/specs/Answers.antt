@@ -6,9 +6,9 @@ use lib.IntN.{ℤ, pos}
 use lib.Dec.{ltb}
 use lib.Signed.{leZ, ltZ}
 use lib.ListN.{length}
-use Rattle.lists.specs.Plain.{same, within, any, filter, positions}
+use Rattle.lists.specs.Plain.{same, within, filter, positions}
 use Rattle.paper.specs.Limits.{extentFits, lowerFits, strideFits, coordinateFits}
-use Rattle.paper.specs.Descriptor.{addressed, outside, at}
+use Rattle.paper.specs.Descriptor.{outsideCells, at}
 use Rattle.paper.specs.declared.Descriptor.{Descriptor}
 use Rattle.paper.specs.declared.Segment.{Segment}
 use Rattle.paper.specs.declared.Window.{Window}
@@ -29,6 +29,11 @@ abbrev pub answerAt : ℕ → List ℕ → Answer
 answerAt number [] = answer number false
 answerAt number (p ∷ ps) = record { number = number; given = true; count = 0; position = p }
 
+-- given where there is such a cell; of the first its position is returned, and its coordinate as count
+abbrev pub answerAtCell : ℕ → List (ℕ × ℕ) → Answer
+answerAtCell number [] = answer number false
+answerAtCell number (p ∷ ps) = record { number = number; given = true; count = p .1; position = p .0 }
+
 -- the positions whose segment passes a test, ascending
 abbrev pub positionsOf : (Segment → Bool) → List Segment → List ℕ
 positionsOf q segments = filter (λ p. q (at segments p)) (positions (length segments))
@@ -47,10 +52,13 @@ badLower kind lower = answer 2 (not (lowerFits lower) || (same kind (pos 3) && n
 abbrev pub badExtent : ℤ → Answer
 badExtent n = answer 3 (not (extentFits n))
 
--- 4: a stride beyond its limits, or an addressed cell outside the table
+-- 4: a stride beyond its limits. Document 01 gave 4 for an addressed cell outside the table too; request E1 gives 12 for that
+abbrev pub badStrides : Descriptor → Answer
+badStrides d = answer 4 (not (strideFits (d .«segment_stride»)) || not (strideFits (d .«coordinate_stride»)))
+
+-- 12 (request E1): an addressed cell outside the table; the smallest such position returned, and its smallest such coordinate as count
 abbrev pub badCells : ℤ → Descriptor → Answer
-badCells len d =
-    answer 4 (not (strideFits (d .«segment_stride»)) || not (strideFits (d .«coordinate_stride»)) || any (outside len) (addressed d))
+badCells len d = answerAtCell 12 (outsideCells len d)
 
 -- 5: a coordinate beyond its limits; first such position returned
 abbrev pub farOff : Segment → Bool

@@ -5,7 +5,7 @@ use Prim.Native.Nat.{ℕ}
 use lib.IntN.{ℤ, pos, _+ℤ_, _*ℤ_}
 use lib.Signed.{leZ, ltZ}
 use lib.ListN.{getD}
-use Rattle.lists.specs.Plain.{toNat, positions, joined}
+use Rattle.lists.specs.Plain.{toNat, positions, filter, joined}
 use Rattle.paper.specs.declared.Descriptor.{Descriptor}
 use Rattle.paper.specs.declared.Segment.{Segment}
 
@@ -17,13 +17,17 @@ cellOf d i j = d .base +ℤ pos i *ℤ d .«segment_stride» +ℤ pos j *ℤ d .
 abbrev pub sizeOf : Descriptor → ℕ
 sizeOf d = toNat (d .extent)
 
--- the cells that a descriptor addresses, by position and then by coordinate
-unfoldable pub addressed : Descriptor → List ℤ
-addressed d = joined (map (λ i. map (λ j. cellOf d i j) (positions 4)) (positions (sizeOf d)))
+-- position and coordinate of the cells that a descriptor addresses, by position and then by coordinate
+unfoldable pub addressed : Descriptor → List (ℕ × ℕ)
+addressed d = joined (map (λ i. map (λ j. (i, j)) (positions 4)) (positions (sizeOf d)))
 
 -- a table of len cells does not hold cell z; a length below 0 holds none
 abbrev pub outside : ℤ → ℤ → Bool
 outside len z = ltZ z (pos 0) || leZ len z
+
+-- the addressed cells that a table of len cells does not hold
+abbrev pub outsideCells : ℤ → Descriptor → List (ℕ × ℕ)
+outsideCells len d = filter (λ p. outside len (cellOf d (p .0) (p .1))) (addressed d)
 
 -- the number of position 0 of a table of a kind and a lower bound: the lower bound, for every kind
 abbrev pub firstNumber : ℤ → ℤ → ℤ

@@ -41,8 +41,8 @@ abbrev exampleRows : List Row
 exampleRows =
     -- base 8, segment stride −4, coordinate stride 1, n = 3, 12 cells: accepted
     scan (cells "0 1 2 3 4 5 6 7 8 9 10 11") (descriptor "1 8 0 3 -4 1") (window "0 4 0 4") (sevens 3) (reply "0 1 0 0", cells "2 7 7")
-    -- base 7: 4
-    ∷ scan (cells "0 1 2 3 4 5 6 7 8 9 10 11") (descriptor "1 7 0 3 -4 1") (window "0 4 0 4") (sevens 3) (reply "4 0 0 0", sevens 3)
+    -- base 7: document 01 said 4; by request E1 it is 12, position 2, count 0
+    ∷ scan (cells "0 1 2 3 4 5 6 7 8 9 10 11") (descriptor "1 7 0 3 -4 1") (window "0 4 0 4") (sevens 3) (reply "12 0 0 2", sevens 3)
     -- (0,2)-(6,2), kind 2, lower bound 1; the words after W(n) keep their values
     ∷ build (cells "0 2 6 2") (descriptor "2 0 1 1 4 1") (sevens 20) (reply "0 18 0 0", cells "1 1 1 0 0 2 6 2 0 0 0 1 0 0 0 0 0 0 7 7")
     -- the program's table and window: count 2, visits 13, numbers 1 and 2; the cell after keeps its value
@@ -87,7 +87,7 @@ wordRows =
     ∷ wordsToC (pos 4097) (negℤ (pos 3))
     ∷ []
 
--- ---- the builder's order: 1, 2, 3, 4, 7, 5, 6
+-- ---- the builder's order: 1, 2, 3, 4, 12, 7, 5, 6
 
 abbrev builderRows : List Row
 builderRows =
@@ -97,15 +97,28 @@ builderRows =
     ∷ build (cells "0 2 6 2") (descriptor "3 0 1 4097 1048577 1") [] (reply "2 0 0 0", [])
     ∷ build (cells "0 2 6 2") (descriptor "3 0 0 4097 1048577 1") [] (reply "3 0 0 0", [])
     ∷ build (cells "0 2 6 2") (descriptor "3 0 0 1 1048577 1") [] (reply "4 0 0 0", [])
-    -- a cell outside the table
-    ∷ build (cells "0 2 6 2") (descriptor "3 1 0 1 4 1") (sevens 17) (reply "4 0 0 0", sevens 17)
+    -- 4 stands before 12: a stride beyond its limits that also leads outside, and one within them
+    ∷ build (cells "0 2 6 2") (descriptor "3 0 0 2 -1048577 1") (sevens 36) (reply "4 0 0 0", sevens 36)
+    ∷ build (cells "0 2 6 2") (descriptor "3 0 0 2 -1048576 1") (sevens 36) (reply "12 0 0 1", sevens 36)
+    -- 12: each coordinate as the first outside, at position 0 or a later one
+    ∷ build (cells "0 2 6 2") (descriptor "3 1 0 1 4 1") (sevens 17) (reply "12 3 0 0", sevens 17)
+    ∷ build (cells "0 2 6 2 0 2 6") (descriptor "3 0 0 3 4 1") (sevens 58) (reply "12 3 0 1", sevens 58)
+    ∷ build (cells "0 2 6 2 0 2") (descriptor "3 0 0 3 4 1") (sevens 58) (reply "12 2 0 1", sevens 58)
+    ∷ build (cells "0 2 6 2 0") (descriptor "3 0 0 3 4 1") (sevens 58) (reply "12 1 0 1", sevens 58)
+    ∷ build (cells "0 2 6 2") (descriptor "3 0 0 3 4 1") (sevens 58) (reply "12 0 0 1", sevens 58)
+    ∷ build (cells "0 2 6 2") (descriptor "3 2 0 1 4 -1") (sevens 18) (reply "12 3 0 0", sevens 18)
+    ∷ build (cells "0 2") (descriptor "3 0 0 1 4 3") (sevens 18) (reply "12 1 0 0", sevens 18)
+    ∷ build (cells "0 2 6 2") (descriptor "3 4 0 1 4 1") (sevens 18) (reply "12 0 0 0", sevens 18)
+    -- a base at the ends of 64 bits
+    ∷ build (cells "0 2 6 2") (descriptor "3 9223372036854775807 0 1 4 1") (sevens 18) (reply "12 0 0 0", sevens 18)
+    ∷ build (cells "0 2 6 2") (descriptor "3 -9223372036854775808 0 1 4 1") (sevens 18) (reply "12 0 0 0", sevens 18)
     -- a word too few, and a slanted segment with a coordinate beyond its limits
     ∷ build (cells "0 0 1 536870913") (descriptor "3 0 0 1 4 1") (sevens 17) (reply "7 0 0 0", sevens 17)
     -- 5 at position 1, though 6 would be given at position 0
     ∷ build (cells "0 0 1 1 0 0 0 536870913") (descriptor "3 0 0 2 4 1") (sevens 36) (reply "5 0 0 1", sevens 36)
     -- 6, the first such position
     ∷ build (cells "0 0 1 0 0 0 1 1 0 0 2 2") (descriptor "3 0 0 3 4 1") (sevens 58) (reply "6 0 0 1", sevens 58)
-    -- with n = 0 base may be anything, but strides are judged
+    -- with n = 0 base may be anything and 12 is never given, but strides are judged
     ∷ build [] (descriptor "1 -9223372036854775808 5 0 0 0") (sevens 5) (reply "0 4 0 0", cells "0 5 0 0 7")
     ∷ build [] (descriptor "1 0 5 0 0 -1048577") (sevens 5) (reply "4 0 0 0", sevens 5)
     -- lower bounds at their limits
@@ -118,7 +131,7 @@ builderRows =
     ∷ build tied (descriptor "1 0 10 9 4 1") (sevens 203) (reply "0 202 0 0", tiedWords ++ sevens 1)
     ∷ []
 
--- ---- the scan's order: 1, 2, 3, 4, 8, 7, 5
+-- ---- the scan's order: 1, 2, 3, 4, 12, 8, 7, 5
 
 abbrev scanRows : List Row
 scanRows =
@@ -126,6 +139,7 @@ scanRows =
     ∷ scan (cells "0 2 6 2") (descriptor "1 0 1000001 -1 0 1048577") (window "1 0 0 0") [] (reply "2 0 0 0", [])
     ∷ scan (cells "0 2 6 2") (descriptor "1 0 0 -1 0 1048577") (window "1 0 0 0") [] (reply "3 0 0 0", [])
     ∷ scan (cells "0 2 6 2") (descriptor "1 0 0 1 0 1048577") (window "1 0 0 0") [] (reply "4 0 0 0", [])
+    ∷ scan (cells "0 2 6 2") (descriptor "1 0 0 2 0 2") (window "1 0 0 0") [] (reply "12 2 0 0", [])
     ∷ scan (cells "0 0 0 536870913") (descriptor "1 0 0 1 0 1") (window "1 0 0 0") [] (reply "8 0 0 0", [])
     ∷ scan (cells "0 0 0 536870913") (descriptor "1 0 0 1 0 1") (window "0 0 0 0") [] (reply "7 0 0 0", [])
     ∷ scan (cells "0 0 0 536870913") (descriptor "1 0 0 1 0 1") (window "0 0 0 0") (sevens 1) (reply "5 0 0 0", sevens 1)
@@ -183,18 +197,19 @@ queryRows =
     ∷ query (set tiedWords 56 (pos 6)) (window "2 3 7 9") (sevens 9) (reply "10 0 0 0", zeros 9)
     ∷ []
 
--- ---- C hosts: 3, 4, 11; a length below 0 holds no cell; 8, 5
+-- ---- C hosts: 3, 4, 12, 11, there without a place; a length below 0 holds no cell; 8, 5
 
 abbrev hostRows : List Row
 hostRows =
     cellToC "12 8 3 -4 1 2 3" (pos 3)
-    ∷ cellToC "12 7 3 -4 1 0 0" (negℤ (pos 4))
+    ∷ cellToC "12 7 3 -4 1 0 0" (negℤ (pos 12))
     ∷ cellToC "12 8 -1 1048577 1 3 0" (negℤ (pos 3))
     ∷ cellToC "12 8 3 1048577 1 3 0" (negℤ (pos 4))
+    ∷ cellToC "12 7 3 -4 1 3 0" (negℤ (pos 12))
     ∷ cellToC "12 8 3 -4 1 3 0" (negℤ (pos 11))
     ∷ cellToC "12 8 3 -4 1 -1 0" (negℤ (pos 11))
     ∷ cellToC "12 8 3 -4 1 0 4" (negℤ (pos 11))
-    ∷ cellToC "-1 0 1 0 0 0 0" (negℤ (pos 4))
+    ∷ cellToC "-1 0 1 0 0 0 0" (negℤ (pos 12))
     -- with n = 0 no position is there
     ∷ cellToC "0 0 0 0 0 0 0" (negℤ (pos 11))
     ∷ meetToC (segment "0 0 0 536870913") (window "1 0 0 0") (negℤ (pos 8))

@@ -8,7 +8,7 @@ use lib.ListN.{length}
 use Rattle.lists.specs.Plain.{same}
 use Rattle.paper.specs.Limits.{extentFits, lowerFits}
 use Rattle.paper.specs.Descriptor.{sizeOf, segmentsOf}
-use Rattle.paper.specs.Answers.{Answer, answer, badKind, badLower, badExtent, badCells, badCoordinate, badSlant, badBuffer, badWindow, badPlace}
+use Rattle.paper.specs.Answers.{Answer, answer, badKind, badLower, badExtent, badStrides, badCells, badCoordinate, badSlant, badBuffer, badWindow, badPlace}
 use Rattle.paper.specs.Words.{W}
 use Rattle.paper.specs.Walk.{word, extentIn, sizeIn, Walked, walked, stopped, walkOf}
 use Rattle.paper.specs.declared.Descriptor.{Descriptor}
@@ -32,26 +32,28 @@ isStopped stopped = true
 abbrev pub badWalk : Walked → Answer
 badWalk r = answer 10 (isStopped r)
 
--- ---- the orders
+-- ---- the orders. Request E1: 12 stands directly after 4 in each
 
--- builder: 1, 2, 3, 4, 7, 5, 6
+-- builder: 1, 2, 3, 4, 12, 7, 5, 6
 abbrev pub builderOrder : List ℤ → Descriptor → List ℤ → List Answer
 builderOrder table d index =
     badKind (d .kind)
     ∷ badLower (d .kind) (d .lower)
     ∷ badExtent (d .extent)
+    ∷ badStrides d
     ∷ badCells (pos (length table)) d
     ∷ badBuffer (W (sizeOf d)) (length index)
     ∷ badCoordinate (segmentsOf d table)
     ∷ badSlant (segmentsOf d table)
     ∷ []
 
--- scan: 1, 2, 3, 4, 8, 7, 5
+-- scan: 1, 2, 3, 4, 12, 8, 7, 5
 abbrev pub scanOrder : List ℤ → Descriptor → Window → List ℤ → List Answer
 scanOrder table d w numbers =
     badKind (d .kind)
     ∷ badLower (d .kind) (d .lower)
     ∷ badExtent (d .extent)
+    ∷ badStrides d
     ∷ badCells (pos (length table)) d
     ∷ badWindow w
     ∷ badBuffer (sizeOf d) (length numbers)
@@ -63,9 +65,9 @@ abbrev pub queryOrder : List ℤ → Window → List ℤ → List Answer
 queryOrder ws w numbers =
     badIndex ws ∷ badWindow w ∷ badBuffer (sizeIn ws) (length numbers) ∷ badWalk (walkOf ws w) ∷ []
 
--- C hosts. The cell of a position and coordinate: 3, 4, 11
+-- C hosts. The cell of a position and coordinate: 3, 4, 12, 11
 abbrev pub cellOrder : ℤ → Descriptor → ℤ → ℤ → List Answer
-cellOrder len d i j = badExtent (d .extent) ∷ badCells len d ∷ badPlace (d .extent) i j ∷ []
+cellOrder len d i j = badExtent (d .extent) ∷ badStrides d ∷ badCells len d ∷ badPlace (d .extent) i j ∷ []
 
 -- W(n): 3
 abbrev pub wordsOrder : ℤ → List Answer

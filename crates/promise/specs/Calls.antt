@@ -19,9 +19,9 @@ use Rattle.lists.specs.Orders.{same-equal, same-self}
 use Rattle.lists.specs.Every.{All, all-map}
 use Rattle.lists.specs.Counting.{count-map, count-none, each-counted}
 use Rattle.lists.specs.Positions.{positions-length}
-use Rattle.paper.specs.Descriptor.{sizeOf, firstNumber, numberOf, segmentOf, segmentsOf}
+use Rattle.paper.specs.Descriptor.{outsideCells, sizeOf, firstNumber, numberOf, segmentOf, segmentsOf}
 use Rattle.paper.specs.Limits.{mostSegments, extentFits, lowerFits}
-use Rattle.paper.specs.Answers.{Answer, answerAt, positionsOf, farOff, slanted, badKind, badLower, badExtent, badCells, badBuffer, badCoordinate, badSlant, badWindow, judged, refused, done}
+use Rattle.paper.specs.Answers.{Answer, answerAt, answerAtCell, positionsOf, farOff, slanted, badKind, badLower, badExtent, badStrides, badCells, badBuffer, badCoordinate, badSlant, badWindow, judged, refused, done}
 use Rattle.paper.specs.Words.{W, lowFirst, horizontals, verticals, indexWords}
 use Rattle.paper.specs.Walk.{word, extentIn, sizeIn, Walked, walked, walkOf}
 use Rattle.paper.specs.Orders.{badIndex, isStopped, builderOrder, queryOrder}
@@ -86,9 +86,29 @@ none-refused cells answer (All.also {x = x} {l = xs} h k) e = go (x .given) refl
 
 -- ---- a builder that is done has written an index
 
-number-at : (number : ℕ) (ps : List ℕ) → 1 ≤ number → 1 ≤ answerAt number ps .number
-number-at number [] h = h
-number-at number (p ∷ ps) h = h
+pub number-at : (number : ℕ) (ps : List ℕ) → answerAt number ps .number ≡ number
+number-at number [] = refl
+number-at number (p ∷ ps) = refl
+
+pub number-at-cell : (number : ℕ) (ps : List (ℕ × ℕ)) → answerAtCell number ps .number ≡ number
+number-at-cell number [] = refl
+number-at-cell number (p ∷ ps) = refl
+
+-- the tests that stand first in each order over a table, 1, 2, 3, 4, 12, have numbers, and so have the answers over its segments
+pub table-numbered : (len : ℤ) (d : Descriptor) {rest : List Answer} → All (λ x. 1 ≤ x .number) rest
+    → All (λ x. 1 ≤ x .number) (badKind (d .kind) ∷ badLower (d .kind) (d .lower) ∷ badExtent (d .extent) ∷ badStrides d ∷ badCells len d ∷ rest)
+table-numbered len d h =
+    All.also {x = badKind (d .kind)} (omega arith)
+    (All.also {x = badLower (d .kind) (d .lower)} (omega arith)
+    (All.also {x = badExtent (d .extent)} (omega arith)
+    (All.also {x = badStrides d} (omega arith)
+    (All.also {x = badCells len d} (rw (number-at-cell 12 (outsideCells len d)) (omega arith)) h))))
+
+pub far-numbered : (segments : List Segment) → 1 ≤ badCoordinate segments .number
+far-numbered segments = rw (number-at 5 (positionsOf farOff segments)) (omega arith)
+
+slant-numbered : (segments : List Segment) → 1 ≤ badSlant segments .number
+slant-numbered segments = rw (number-at 6 (positionsOf slanted segments)) (omega arith)
 
 -- n within its limits, as the size of the table
 size-fits : (z : ℤ) → extentFits z ≡ true → toNat z ≤ mostSegments
@@ -107,13 +127,10 @@ module _ (table : List ℤ) (d : Descriptor) (index : List ℤ) where
 
   numbered : All (λ x. 1 ≤ x .number) (builderOrder table d index)
   numbered =
-      All.also {x = badKind (d .kind)} (omega arith)
-      (All.also {x = badLower (d .kind) (d .lower)} (omega arith)
-      (All.also {x = badExtent (d .extent)} (omega arith)
-      (All.also {x = badCells (pos (length table)) d} (omega arith)
+      table-numbered (pos (length table)) d
       (All.also {x = badBuffer (W (sizeOf d)) (length index)} (omega arith)
-      (All.also {x = badCoordinate segments} (number-at 5 (positionsOf farOff segments) (omega arith))
-      (All.also {x = badSlant segments} (number-at 6 (positionsOf slanted segments) (omega arith)) All.none))))))
+      (All.also {x = badCoordinate segments} (far-numbered segments)
+      (All.also {x = badSlant segments} (slant-numbered segments) All.none)))
 
   -- what the builder has seen where it gives none of its answers
   pub record Accepts : Type 0 where
@@ -122,7 +139,7 @@ module _ (table : List ℤ) (d : Descriptor) (index : List ℤ) where
 
   accepts : All (λ x. x .given ≡ false) (builderOrder table d index) → Accepts
   unfolding segmentsOf
-  accepts (All.also kind (All.also lower (All.also extent (All.also cells (All.also buffer (All.also far (All.also slant All.none))))))) = record {
+  accepts (All.also kind (All.also lower (All.also extent (All.also strides (All.also cells (All.also buffer (All.also far (All.also slant All.none)))))))) = record {
     lower = no-not (lowerFits (d .lower)) (or-false (not (lowerFits (d .lower))) _ lower .0);
     straight = record {
       size = rw (length-map (positions (sizeOf d)) (segmentOf d table), positions-length (sizeOf d)) (size-fits (d .extent) (no-not (extentFits (d .extent)) extent));

@@ -31,7 +31,7 @@ fieldOf (suc (suc (suc n))) s = s .y2
 unfoldable pub wordAt : List ℤ → Descriptor → ℤ → ℕ → ℤ
 wordAt table d z which = fieldOf which (at (recordsOf d table) (toNat z))
 
--- a table that refusals 3, 4 and 6 pass
+-- a table that refusals 3, 4, 12 and 6 pass
 pub record Readable (table : List ℤ) (d : Descriptor) : Type 0 where
   pub held : Held (pos (length table)) d
   pub straight : badSlant (segmentsOf d table) .given ≡ false

@@ -17,7 +17,8 @@ use Rattle.lists.specs.Tests.{or-false, within-true}
 use Rattle.paper.specs.Limits.{strideFits}
 use Rattle.paper.specs.Descriptor.{cellOf, outside}
 use Rattle.paper.specs.declared.Descriptor.{Descriptor}
-use Rattle.table.specs.Cells.{offsetOf, badStride}
+use Rattle.paper.specs.Answers.{badStrides}
+use Rattle.table.specs.Cells.{offsetOf}
 
 -- a number that went through the machine's bits
 abbrev pub R : ℤ → ℤ
@@ -30,13 +31,13 @@ stride z e = let p = within-true (negℤ (pos 1048576)) (pos 1048576) z e in bet
 abbrev small : (n most : ℕ) → n ≤ most → Ex
 small n most h = within (pos n) most (omega arith)
 
-strides-fit : (d : Descriptor) → badStride d ≡ false → (strideFits (d .«segment_stride») ≡ true) × (strideFits (d .«coordinate_stride») ≡ true)
+strides-fit : (d : Descriptor) → badStrides d .given ≡ false → (strideFits (d .«segment_stride») ≡ true) × (strideFits (d .«coordinate_stride») ≡ true)
 strides-fit d e =
     let p = or-false (not (strideFits (d .«segment_stride»))) (not (strideFits (d .«coordinate_stride»))) e in
     (not-false (strideFits (d .«segment_stride»)) (p .0), not-false (strideFits (d .«coordinate_stride»)) (p .1))
 
 -- ---- the offset, as the code has it; m and n are i and j read as signed numbers
-module _ (d : Descriptor) (i j : ℕ) (a : (i < 4096) × (j < 4) × (badStride d ≡ false)) where
+module _ (d : Descriptor) (i j : ℕ) (a : (i < 4096) × (j < 4) × (badStrides d .given ≡ false)) where
   abbrev rowTerm : Ex
   rowTerm = small i 4096 (omega arith) ⊗ stride (d .«segment_stride») (strides-fit d (a .2) .0)
 

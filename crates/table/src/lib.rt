@@ -1,5 +1,5 @@
-// A table by its descriptor: refusals 1 to 6, the cell of a position, its coordinates and segments, and W(n), said in the words of `paper`.
-// A caller tests `bad_kind`, `bad_lower`, `bad_extent` and `bad_cells` first; what passes the last two is `Held`, and may be read.
+// A table by its descriptor: refusals 1 to 6 and 12, the cell of a position, its coordinates and segments, and W(n), said in the words of `paper`.
+// A caller tests `bad_kind`, `bad_lower`, `bad_extent`, `bad_strides` and `bad_cells` first; what passes the last three is `Held`, and may be read.
 ghost use mathlib.Core.Path.{_≡_};
 ghost use mathlib.Core.Bool.{true, false, not};
 ghost use Prim.Native.Nat.{_+_, _*_, _<_, _≤_};
@@ -11,9 +11,9 @@ ghost use Rattle.lists.specs.Plain.{toNat, any, positions};
 ghost use Rattle.lists.specs.Choosing.{First};
 ghost use Rattle.paper.specs.Descriptor.{firstNumber, cellOf, sizeOf, outside as Outside, segmentOf, segmentsOf};
 ghost use Rattle.paper.specs.Limits.{coordinateFits};
-ghost use Rattle.paper.specs.Answers.{badKind, badLower, badExtent, badCells, badCoordinate, badSlant, farOff, slanted as Slanted};
+ghost use Rattle.paper.specs.Answers.{badKind, badLower, badExtent, badStrides, badCells, badCoordinate, badSlant, farOff, slanted as Slanted};
 ghost use Rattle.paper.specs.Words.{L, W};
-ghost use Rattle.table.specs.Cells.{offsetOf, badStride, Based, rowOutside, Held, fault as Fault, foundAt, lowEnd};
+ghost use Rattle.table.specs.Cells.{offsetOf, Based, rowOutside, Held, fault as Fault, foundAt, lowEnd, outsideAt};
 use paper::Descriptor;
 use paper::Segment;
 
@@ -55,10 +55,10 @@ pub fn first_number(descriptor: Descriptor) -> i64
     descriptor.lower
 }
 
-// ---- refusal 4
+// ---- refusals 4 and 12
 
-fn bad_stride(descriptor: Descriptor) -> bool
-    ensures { λ r. ⌜ r ≡ badStride descriptor ⌝ }
+pub fn bad_strides(descriptor: Descriptor) -> bool
+    ensures { λ r. ⌜ r ≡ badStrides descriptor .given ⌝ }
 {
     let segment = (-1048576 <= descriptor.segment_stride) & (descriptor.segment_stride <= 1048576);
     let coordinate = (-1048576 <= descriptor.coordinate_stride)
@@ -75,7 +75,7 @@ fn bad_base(len: i64, descriptor: Descriptor) -> bool
 
 // How far from the base coordinate j of position i stands.
 fn offset(descriptor: Descriptor, i: usize, j: usize) -> i64
-    requires { ⌜ (i < 4096) × (j < 4) × (badStride descriptor ≡ false) ⌝ }
+    requires { ⌜ (i < 4096) × (j < 4) × (badStrides descriptor .given ≡ false) ⌝ }
     ensures { λ r. ⌜ r ≡ offsetOf descriptor i j ⌝ }
 {
     whole::count(i) * descriptor.segment_stride + whole::count(j) * descriptor.coordinate_stride
@@ -103,7 +103,7 @@ fn any_outside(len: i64, descriptor: Descriptor, n: usize) -> bool
 }
 
 // The first coordinate of position i that stands outside the table, or 4.
-pub fn first_in_row(len: i64, descriptor: Descriptor, i: usize) -> usize
+fn first_in_row(len: i64, descriptor: Descriptor, i: usize) -> usize
     requires { ⌜ (i < 4096) × Based len descriptor ⌝ }
     ensures { λ r. ⌜ First (λ j. Outside len (cellOf descriptor i j)) 4 r ⌝ }
 {
@@ -118,7 +118,7 @@ pub fn first_in_row(len: i64, descriptor: Descriptor, i: usize) -> usize
 }
 
 // The first of n positions that has a cell outside the table, or n. The positions are gone through only where there is one.
-pub fn first_row(len: i64, descriptor: Descriptor, n: usize) -> usize
+fn first_row(len: i64, descriptor: Descriptor, n: usize) -> usize
     requires { ⌜ (0 < n) × (n ≤ 4096) × Based len descriptor ⌝ }
     ensures { λ r. ⌜ First (rowOutside len descriptor) n r ⌝ }
 {
@@ -135,29 +135,57 @@ pub fn first_row(len: i64, descriptor: Descriptor, n: usize) -> usize
     n
 }
 
-// Answer 4: a stride beyond its limits, or an addressed cell outside a table of len cells.
-pub fn bad_cells(len: i64, descriptor: Descriptor) -> bool
-    requires { ⌜ badExtent (descriptor .extent) .given ≡ false ⌝ }
-    ensures { λ r. ⌜ r ≡ badCells len descriptor .given ⌝ }
+// Where a cell stands.
+pub struct Place {
+    pub position: usize,
+    pub coordinate: usize,
+}
+
+// The first addressed cell outside a table of len cells, by position and then by coordinate; position n where there is none.
+pub fn first_outside(len: i64, descriptor: Descriptor) -> Place
+    requires { ⌜ (badExtent (descriptor .extent) .given ≡ false) × (badStrides descriptor .given ≡ false) ⌝ }
+    ensures { λ r. ⌜ (badCells len descriptor ≡ outsideAt (sizeOf descriptor) (r .position) (r .coordinate)) × (r .position ≤ 4096) × (r .coordinate ≤ 4) ⌝ }
 {
-    if bad_stride(descriptor) {
-        return true;
-    }
     let n = count(descriptor);
     if n == 0 {
-        return false;
+        return Place {
+            position: 0,
+            coordinate: 0,
+        };
     }
     if bad_base(len, descriptor) {
-        return true;
+        return Place {
+            position: 0,
+            coordinate: 0,
+        };
     }
-    first_row(len, descriptor, n) < n
+    let position = first_row(len, descriptor, n);
+    if position == n {
+        return Place {
+            position: n,
+            coordinate: 0,
+        };
+    }
+    Place {
+        position: position,
+        coordinate: first_in_row(len, descriptor, position),
+    }
+}
+
+// Answer 12.
+pub fn bad_cells(len: i64, descriptor: Descriptor) -> bool
+    requires { ⌜ (badExtent (descriptor .extent) .given ≡ false) × (badStrides descriptor .given ≡ false) ⌝ }
+    ensures { λ r. ⌜ r ≡ badCells len descriptor .given ⌝ }
+{
+    let first = first_outside(len, descriptor);
+    first.position < count(descriptor)
 }
 
 // ---- one cell
 
 // The cell of coordinate j of position i.
 pub fn cell(descriptor: Descriptor, i: usize, j: usize) -> i64
-    requires { ⌜ (i < 4096) × (j < 4) × (badStride descriptor ≡ false) × SFits w64 (cellOf descriptor i j) ⌝ }
+    requires { ⌜ (i < 4096) × (j < 4) × (badStrides descriptor .given ≡ false) × SFits w64 (cellOf descriptor i j) ⌝ }
     ensures { λ r. ⌜ r ≡ cellOf descriptor i j ⌝ }
     ensures fits { λ r. ⌜ SFits w64 r ⌝ }
 {

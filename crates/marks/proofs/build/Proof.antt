@@ -26,7 +26,7 @@ module _ (c : tie.Else1) where
   first = sym (c .before .of-table .ensures .0) ∙ c .if1 .left
 
   held : Held (pos (length (start .args .table .now))) (start .args .descriptor)
-  held = let p = table-pass (start .args .table .now) (start .args .descriptor) first in record { extent = p .2; cells = p .3 }
+  held = table-pass (start .args .table .now) (start .args .descriptor) first .held
 
 module _ (c : tie.After-words) where
   abbrev told : tie.Else1
@@ -62,14 +62,14 @@ module _ (c : tie.Else4) where
 of-table-requires : tie.Need-of-table-requires
 of-table-requires c κs = search needs
 
-refusal-requires : tie.Need-refusal-requires
-refusal-requires c κs = (omega (arith, c .before .of-table .ensures .1), omega arith)
+table-refusal-requires : tie.Need-table-refusal-requires
+table-refusal-requires c κs = (c .before .of-table .ensures .0, omega (arith, c .if1 .taken), c .before .of-table .ensures .1)
 
 returns : tie.Need-returns
 returns c =
     let o = c .before .before in
     let a = o .before .args in
-    by-table (a .table .now) (a .descriptor) (a .index .now) (o .of-table .result) (o .of-table .ensures .0) (c .before .if1 .taken) (c .refusal .ensures)
+    by-table (a .table .now) (a .descriptor) (a .index .now) (done 0 0) (λ e. c .before .if1 .taken (o .of-table .ensures .0 ∙ e)) (c .table-refusal .ensures)
 
 count-requires : tie.Need-count-requires
 count-requires c κs = held c .extent
@@ -77,21 +77,21 @@ count-requires c κs = held c .extent
 words-requires : tie.Need-words-requires
 words-requires c κs = search needs
 
-refusal-requires-2 : tie.Need-refusal-requires-2
-refusal-requires-2 c κs = search needs
+refusal-requires : tie.Need-refusal-requires
+refusal-requires c κs = search needs
 
 returns-2 : tie.Need-returns-2
 returns-2 c =
     let w = c .before .before in
     let a = start (told w) .args in
     by-room (a .table .now) (a .descriptor) (a .index .now) (first (told w))
-    (lt-ltb (length (a .index .now)) (W (sizeOf (a .descriptor))) (omega (arith, words-are w, c .before .if2 .taken))) (c .refusal2 .ensures)
+    (lt-ltb (length (a .index .now)) (W (sizeOf (a .descriptor))) (omega (arith, words-are w, c .before .if2 .taken))) (c .refusal .ensures)
 
 first-bad-requires : tie.Need-first-bad-requires
 first-bad-requires c κs = (c .before .before .count .ensures .0, held (told (c .before)))
 
-refusal-requires-3 : tie.Need-refusal-requires-3
-refusal-requires-3 c κs = search needs
+refusal-requires-2 : tie.Need-refusal-requires-2
+refusal-requires-2 c κs = search needs
 
 returns-3 : tie.Need-returns-3
 returns-3 c =
@@ -100,13 +100,13 @@ returns-3 c =
     let w = e .before in
     let a = start (told w) .args in
     by-far (a .table .now) (a .descriptor) (a .index .now) (first (told w)) (roomy e) (f .first-bad .result)
-    (found-at 5 (w .before .count .result) (f .first-bad .result) (c .before .if3 .taken) (f .first-bad .ensures)) (c .refusal3 .ensures)
+    (found-at 5 (w .before .count .result) (f .first-bad .result) (c .before .if3 .taken) (f .first-bad .ensures)) (c .refusal2 .ensures)
 
 first-bad-requires-2 : tie.Need-first-bad-requires-2
 first-bad-requires-2 c κs = (counted c .before .count .ensures .0, held (told (counted c)))
 
-refusal-requires-4 : tie.Need-refusal-requires-4
-refusal-requires-4 c κs = search needs
+refusal-requires-3 : tie.Need-refusal-requires-3
+refusal-requires-3 c κs = search needs
 
 returns-4 : tie.Need-returns-4
 returns-4 c =
@@ -115,7 +115,7 @@ returns-4 c =
     let w = counted e in
     let a = start (told w) .args in
     by-slant (a .table .now) (a .descriptor) (a .index .now) (first (told w)) (roomy (roomed e)) (near e) (f .first-bad2 .result)
-    (found-at 6 (w .before .count .result) (f .first-bad2 .result) (c .before .if4 .taken) (f .first-bad2 .ensures)) (c .refusal4 .ensures)
+    (found-at 6 (w .before .count .result) (f .first-bad2 .result) (c .before .if4 .taken) (f .first-bad2 .ensures)) (c .refusal3 .ensures)
 
 build-words-requires : tie.Need-build-words-requires
 build-words-requires c κs =
@@ -124,7 +124,7 @@ build-words-requires c κs =
     let a = start (told w) .args in
     record {
       readable = record { held = held (told w); straight = straight e };
-      lower = table-pass (a .table .now) (a .descriptor) (first (told w)) .1;
+      lower = table-pass (a .table .now) (a .descriptor) (first (told w)) .lower;
       room = room (roomed (limited e));
     }
 
@@ -148,17 +148,17 @@ build-spec =
     tie.close
     (tie.spec
     of-table-requires
-    refusal-requires
+    table-refusal-requires
     returns
     count-requires
     words-requires
-    refusal-requires-2
+    refusal-requires
     returns-2
     first-bad-requires
-    refusal-requires-3
+    refusal-requires-2
     returns-3
     first-bad-requires-2
-    refusal-requires-4
+    refusal-requires-3
     returns-4
     build-words-requires
     done-requires

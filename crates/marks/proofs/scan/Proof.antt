@@ -20,7 +20,7 @@ first : (c : tie.Else1) → firstGiven (tableOrder (c .before .before .args .tab
 first c = sym (c .before .of-table .ensures .0) ∙ c .if1 .left
 
 held : (c : tie.Else1) → Held (pos (length (c .before .before .args .table .now))) (c .before .before .args .descriptor)
-held c = let a = c .before .before .args in let p = table-pass (a .table .now) (a .descriptor) (first c) in record { extent = p .2; cells = p .3 }
+held c = let a = c .before .before .args in table-pass (a .table .now) (a .descriptor) (first c) .held
 
 window : (c : tie.Else2) → badWindow (c .before .before .before .before .args .window) .given ≡ false
 window c = sym (c .before .bad-window .ensures) ∙ c .if2 .left
@@ -31,54 +31,54 @@ room c = le-ltb (length (c .before .before .before .before .before .before .args
 of-table-requires : tie.Need-of-table-requires
 of-table-requires c κs = search needs
 
-refusal-requires : tie.Need-refusal-requires
-refusal-requires c κs = (omega (arith, c .before .of-table .ensures .1), omega arith)
+table-refusal-requires : tie.Need-table-refusal-requires
+table-refusal-requires c κs = (c .before .of-table .ensures .0, omega (arith, c .if1 .taken), c .before .of-table .ensures .1)
 
 returns : tie.Need-returns
 returns c =
     let a = c .before .before .before .args in
-    by-table (a .table .now) (a .descriptor) (a .window) (a .numbers .now) (c .before .before .of-table .result) (c .before .before .of-table .ensures .0) (c .before .if1 .taken) (c .refusal .ensures)
+    by-table (a .table .now) (a .descriptor) (a .window) (a .numbers .now) (done 0 0) (λ e. c .before .if1 .taken (c .before .before .of-table .ensures .0 ∙ e)) (c .table-refusal .ensures)
 
 bad-window-requires : tie.Need-bad-window-requires
 bad-window-requires c κs = search needs
 
-refusal-requires-2 : tie.Need-refusal-requires-2
-refusal-requires-2 c κs = search needs
+refusal-requires : tie.Need-refusal-requires
+refusal-requires c κs = search needs
 
 returns-2 : tie.Need-returns-2
 returns-2 c =
     let a = c .before .before .before .before .before .args in
-    by-window (a .table .now) (a .descriptor) (a .window) (a .numbers .now) (first (c .before .before .before)) (sym (c .before .before .bad-window .ensures) ∙ c .before .if2 .taken) (c .refusal2 .ensures)
+    by-window (a .table .now) (a .descriptor) (a .window) (a .numbers .now) (first (c .before .before .before)) (sym (c .before .before .bad-window .ensures) ∙ c .before .if2 .taken) (c .refusal .ensures)
 
 count-requires : tie.Need-count-requires
 count-requires c κs = held (c .before .before) .extent
 
-refusal-requires-3 : tie.Need-refusal-requires-3
-refusal-requires-3 c κs = search needs
+refusal-requires-2 : tie.Need-refusal-requires-2
+refusal-requires-2 c κs = search needs
 
 returns-3 : tie.Need-returns-3
 returns-3 c =
     let a = c .before .before .before .before .before .before .before .args in
-    by-room (a .table .now) (a .descriptor) (a .window) (a .numbers .now) (first (c .before .before .before .before .before)) (window (c .before .before .before)) (lt-ltb (length (a .numbers .now)) (sizeOf (a .descriptor)) (omega (arith, c .before .if3 .taken, c .before .before .count .ensures .0))) (c .refusal3 .ensures)
+    by-room (a .table .now) (a .descriptor) (a .window) (a .numbers .now) (first (c .before .before .before .before .before)) (window (c .before .before .before)) (lt-ltb (length (a .numbers .now)) (sizeOf (a .descriptor)) (omega (arith, c .before .if3 .taken, c .before .before .count .ensures .0))) (c .refusal2 .ensures)
 
 first-far-requires : tie.Need-first-far-requires
 first-far-requires c κs = (c .before .count .ensures .0, held (c .before .before .before .before))
 
-refusal-requires-4 : tie.Need-refusal-requires-4
-refusal-requires-4 c κs = search needs
+refusal-requires-3 : tie.Need-refusal-requires-3
+refusal-requires-3 c κs = search needs
 
 returns-4 : tie.Need-returns-4
 returns-4 c =
     let a = c .before .before .before .before .before .before .before .before .before .args in
     let p = c .before .before .first-far in
     by-far (a .table .now) (a .descriptor) (a .window) (a .numbers .now) (first (c .before .before .before .before .before .before .before)) (window (c .before .before .before .before .before)) (room (c .before .before .before)) (p .result)
-    (found-at 5 (c .before .before .before .before .count .result) (p .result) (c .before .if4 .taken) (p .ensures .1)) (c .refusal4 .ensures)
+    (found-at 5 (c .before .before .before .before .count .result) (p .result) (c .before .if4 .taken) (p .ensures .1)) (c .refusal3 .ensures)
 
 list-requires : tie.Need-list-requires
 list-requires c κs =
     let a = c .before .before .before .before .before .before .before .before .before .args in
     let p = c .before .before .first-far .ensures .0 in (
-      record { held = held (c .before .before .before .before .before .before .before); lower = table-pass (a .table .now) (a .descriptor) (first (c .before .before .before .before .before .before .before)) .1; window = window (c .before .before .before .before .before); near = λ k h. p .before k (omega (arith, c .before .if4 .left, c .before .before .before .before .count .ensures .0)) },
+      record { held = held (c .before .before .before .before .before .before .before); lower = table-pass (a .table .now) (a .descriptor) (first (c .before .before .before .before .before .before .before)) .lower; window = window (c .before .before .before .before .before); near = λ k h. p .before k (omega (arith, c .before .if4 .left, c .before .before .before .before .count .ensures .0)) },
       omega (arith, c .before .before .before .if3 .left, c .before .before .before .before .count .ensures .0),
     )
 
@@ -102,16 +102,16 @@ scan-spec =
     tie.close
     (tie.spec
     of-table-requires
-    refusal-requires
+    table-refusal-requires
     returns
     bad-window-requires
-    refusal-requires-2
+    refusal-requires
     returns-2
     count-requires
-    refusal-requires-3
+    refusal-requires-2
     returns-3
     first-far-requires
-    refusal-requires-4
+    refusal-requires-3
     returns-4
     list-requires
     done-requires

@@ -1,67 +1,32 @@
 -- `table::bad_cells` meets its contract. Assumes nothing.
-use mathlib.Core.Path.{_≡_, sym, ap, _∙_}
-use mathlib.Core.Bool.{false}
-use native.Mathlib.Omega.{arith}
+use mathlib.Core.Path.{_≡_, refl, sym, ap, _∙_}
+use mathlib.Core.Bool.{Bool, true, false, cond}
+use Prim.Native.Nat.{ℕ}
+use lib.Dec.{ltb}
 use mir.Syntax.{w64}
 use mir.ValLaws.{toZ-ofZ}
-use Rattle.lists.specs.Plain.{any, positions}
-use Rattle.lists.specs.Tests.{or-left}
-use Rattle.lists.specs.Choosing.{first-any, any-zero}
-use Rattle.paper.specs.Descriptor.{outside, sizeOf}
-use Rattle.table.specs.Cells.{badStride, rowOutside}
-use Rattle.table.specs.Rows.{cells-by, base-outside, first-through}
+use Rattle.paper.specs.Answers.{Answer, answer, badCells}
+use Rattle.paper.specs.Descriptor.{sizeOf}
 use borrow.Author.Needs.{needs}
 use Rattle.table.proofs.bad_cells.Statement.{statement}
 use Rattle.table.proofs.bad_cells.Tie as tie
 
-bad-stride-requires : tie.Need-bad-stride-requires
-bad-stride-requires c κs = search needs
-
-returns : tie.Need-returns
-returns c = sym (or-left _ (sym (c .before .bad-stride .ensures) ∙ c .if1 .taken))
+first-outside-requires : tie.Need-first-outside-requires
+first-outside-requires c κs = search needs
 
 count-requires : tie.Need-count-requires
 count-requires c κs = search needs
 
-strides : (c : tie.Else1) → badStride (c .before .before .args .descriptor) ≡ false
-strides c = sym (c .before .bad-stride .ensures) ∙ c .if1 .left
-
-returns-2 : tie.Need-returns-2
-returns-2 c =
-    let a = c .before .before .before .before .args in
-    cells-by (a .len) (a .descriptor) (strides (c .before .before)) (sym (any-zero (rowOutside (a .len) (a .descriptor)))
-    ∙ ap (λ n. any (rowOutside (a .len) (a .descriptor)) (positions n)) (sym (c .if2 .taken) ∙ c .before .count .ensures .0))
-
-bad-base-requires : tie.Need-bad-base-requires
-bad-base-requires c κs = search needs
-
-returns-3 : tie.Need-returns-3
-returns-3 c =
-    let s = c .before .before .before .before .before .before in
-    let a = s .args in
-    cells-by (a .len) (a .descriptor) (strides (c .before .before .before .before))
-    (sym (base-outside (a .len) (a .descriptor) (sizeOf (a .descriptor)) (omega (arith, c .before .before .before .count .ensures .0))
-    (ap (λ l. outside l (a .descriptor .base)) (sym (toZ-ofZ w64 (a .len) (s .fits .len))) ∙ sym (c .before .bad-base .ensures) ∙ c .if3 .taken)))
-
-first-row-requires : tie.Need-first-row-requires
-first-row-requires c κs = (omega arith, c .before .before .before .count .ensures .1, record { strides = strides (c .before .before .before .before); base = sym (c .before .bad-base .ensures) ∙ c .if3 .left })
-
-returns-4 : tie.Need-returns-4
-returns-4 c =
-    let s = c .before .before .before .before .before .before .before in
-    let a = s .args in
-    cells-by (a .len) (a .descriptor) (strides (c .before .before .before .before .before))
-    (first-any (first-through (λ l. rowOutside l (a .descriptor)) (s .fits .len) (c .first-row .ensures)) ∙ ap (λ n. any (rowOutside (a .len) (a .descriptor)) (positions n)) (c .before .before .before .before .count .ensures .0))
+returns : tie.Need-returns
+returns c =
+    let s = c .before .before .before in
+    let r = c .before .before .first-outside .result in
+    ap (ltb (r .position)) (c .before .count .ensures .0)
+    ∙ sym (ap (λ x. x .given) (ap (λ l. badCells l (s .args .descriptor)) (sym (toZ-ofZ w64 (s .args .len) (s .fits .len))) ∙ c .before .before .first-outside .ensures .0) ∙ given (ltb (r .position) (sizeOf (s .args .descriptor))) (r .position) (r .coordinate))
+  where
+    given : (b : Bool) (i j : ℕ) → cond b (record { number = 12; given = true; count = j; position = i }) (answer 12 false) .given ≡ b
+    given true i j = refl
+    given false i j = refl
 
 pub bad-cells-spec : {M : Type 1} → statement M
-bad-cells-spec =
-    tie.close
-    (tie.spec
-    bad-stride-requires
-    returns
-    count-requires
-    returns-2
-    bad-base-requires
-    returns-3
-    first-row-requires
-    returns-4)
+bad-cells-spec = tie.close (tie.spec first-outside-requires count-requires returns)

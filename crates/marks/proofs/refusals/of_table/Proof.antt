@@ -7,7 +7,9 @@ use lib.ListN.{length}
 use mir.Syntax.{w64}
 use mir.Val.{SFits}
 use mir.ValLaws.{toZ-ofZ}
-use Rattle.paper.specs.Answers.{badKind, badLower, badExtent, badCells}
+use Rattle.paper.specs.Answers.{badKind, badLower, badExtent, badStrides, badCells}
+use Rattle.promise.specs.Calls.{number-at-cell}
+use Rattle.paper.specs.Descriptor.{outsideCells}
 use borrow.Author.Needs.{needs}
 use Rattle.marks.proofs.refusals.of_table.Statement.{statement}
 use Rattle.marks.proofs.refusals.of_table.Tie as tie
@@ -25,9 +27,12 @@ extent c =
     let f : SFits w64 n = search needs in
     ap (λ z. badExtent z .given) (sym (toZ-ofZ w64 n f)) ∙ sym (c .bad-extent .ensures)
 
-cells : (c : tie.After-bad-cells) → badCells (pos (length (c .before .before .before .before .before .before .before .before .before .args .table .now))) (c .before .before .before .before .before .before .before .before .before .args .descriptor) .given ≡ c .bad-cells .result
+strides : (c : tie.Else4) → badStrides (c .before .before .before .before .before .before .before .before .before .args .descriptor) .given ≡ false
+strides c = sym (c .before .bad-strides .ensures) ∙ c .if4 .left
+
+cells : (c : tie.After-bad-cells) → badCells (pos (length (c .before .before .before .before .before .before .before .before .before .before .before .args .table .now))) (c .before .before .before .before .before .before .before .before .before .before .before .args .descriptor) .given ≡ c .bad-cells .result
 cells c =
-    ap (λ l. badCells l (c .before .before .before .before .before .before .before .before .before .args .descriptor) .given) (sym (toZ-ofZ w64 (c .before .count .result) (c .before .count .ensures .1) ∙ c .before .count .ensures .0))
+    ap (λ l. badCells l (c .before .before .before .before .before .before .before .before .before .before .before .args .descriptor) .given) (sym (toZ-ofZ w64 (c .before .count .result) (c .before .count .ensures .1) ∙ c .before .count .ensures .0))
     ∙ sym (c .bad-cells .ensures)
 
 bad-kind-requires : tie.Need-bad-kind-requires
@@ -48,17 +53,25 @@ bad-extent-requires c κs = search needs
 returns-3 : tie.Need-returns-3
 returns-3 c = (rw (kind (c .before .before .before .before .before), lower (c .before .before .before), extent (c .before) ∙ c .if3 .taken) refl, omega arith)
 
+bad-strides-requires : tie.Need-bad-strides-requires
+bad-strides-requires c κs = search needs
+
+returns-4 : tie.Need-returns-4
+returns-4 c = (rw (kind (c .before .before .before .before .before .before .before), lower (c .before .before .before .before .before), extent (c .before .before .before) ∙ c .before .before .if3 .left, sym (c .before .bad-strides .ensures) ∙ c .if4 .taken) refl, omega arith)
+
 count-requires : tie.Need-count-requires
 count-requires c κs = search needs
 
 bad-cells-requires : tie.Need-bad-cells-requires
-bad-cells-requires c κs = extent (c .before .before) ∙ c .before .if3 .left
-
-returns-4 : tie.Need-returns-4
-returns-4 c = (rw (kind (c .before .before .before .before .before .before .before .before), lower (c .before .before .before .before .before .before), extent (c .before .before .before .before) ∙ c .before .before .before .if3 .left, cells (c .before) ∙ c .if4 .taken) refl, omega arith)
+bad-cells-requires c κs = (extent (c .before .before .before .before) ∙ c .before .before .before .if3 .left, strides (c .before))
 
 returns-5 : tie.Need-returns-5
-returns-5 c = (rw (kind (c .before .before .before .before .before .before .before .before), lower (c .before .before .before .before .before .before), extent (c .before .before .before .before) ∙ c .before .before .before .if3 .left, cells (c .before) ∙ c .if4 .left) refl, omega arith)
+returns-5 c =
+    let a = c .before .before .before .before .before .before .before .before .before .before .before .before .args in
+    (sym (rw (kind (c .before .before .before .before .before .before .before .before .before .before), lower (c .before .before .before .before .before .before .before .before), extent (c .before .before .before .before .before .before) ∙ c .before .before .before .before .before .if3 .left, strides (c .before .before .before), cells (c .before) ∙ c .if5 .taken) (number-at-cell 12 (outsideCells (pos (length (a .table .now))) (a .descriptor)))), omega arith)
+
+returns-6 : tie.Need-returns-6
+returns-6 c = (rw (kind (c .before .before .before .before .before .before .before .before .before .before), lower (c .before .before .before .before .before .before .before .before), extent (c .before .before .before .before .before .before) ∙ c .before .before .before .before .before .if3 .left, strides (c .before .before .before), cells (c .before) ∙ c .if5 .left) refl, omega arith)
 
 pub of-table-spec : {M : Type 1} → statement M
 of-table-spec =
@@ -70,7 +83,9 @@ of-table-spec =
     returns-2
     bad-extent-requires
     returns-3
+    bad-strides-requires
+    returns-4
     count-requires
     bad-cells-requires
-    returns-4
-    returns-5)
+    returns-5
+    returns-6)

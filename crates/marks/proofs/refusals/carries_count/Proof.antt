@@ -1,0 +1,13 @@
+-- `refusals::carries_count` meets its contract. Assumes nothing.
+use borrow.Author.Tests.{ne-eqb}
+use Rattle.marks.proofs.refusals.carries_count.Statement.{statement}
+use Rattle.marks.proofs.refusals.carries_count.Tie as tie
+
+returns : tie.Need-returns
+returns c = rw (c .match .keys1)
+
+returns-2 : tie.Need-returns-2
+returns-2 c = simp (ne-eqb _ _ (c .match .rest .1))
+
+pub carries-count-spec : {M : Type 1} → statement M
+carries-count-spec = tie.close (tie.spec returns returns-2)
