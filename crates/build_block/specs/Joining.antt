@@ -30,12 +30,12 @@ use Rattle.build_block.specs.declared.Division.{Division}
 
 -- words of positions by (level, position)
 abbrev pub byLevel : List ℤ → Ends → List ℤ → List ℤ
-byLevel table ends words = sort (keyOrder table (record { key = ends .level; level = ends .level; high = false; d = ends .d })) words
+byLevel table ends words = sort (keyOrder table (record { key = ends .level; level = ends .level; d = ends .d })) words
 
 pub by-level : (table : List ℤ) (ends : Ends) (qs : List ℕ) → byLevel table ends (map pos qs) ≡ map pos (sort (lower (recordsOf (ends .d) table) (axisOf ends)) qs)
 by-level table ends qs =
     sym
-    (sort-map pos (lower (recordsOf (ends .d) table) (axisOf ends)) (keyOrder table (record { key = ends .level; level = ends .level; high = false; d = ends .d }))
+    (sort-map pos (lower (recordsOf (ends .d) table) (axisOf ends)) (keyOrder table (record { key = ends .level; level = ends .level; d = ends .d }))
     (one-key-carried table (ends .d) (ends .level))
     qs)
 

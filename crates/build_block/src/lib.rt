@@ -150,7 +150,6 @@ fn spread(table: &[i32], ends: Ends, part: &mut [i32], m: usize, division: Divis
         Keys {
             key: level,
             level: level,
-            high: false,
             d: d,
         },
         part,

@@ -1,13 +1,13 @@
 -- The records of a table as the builder reads them, and the order of positions by two words of their records. These are definitions.
 -- A position travels as a word of the index (ℤ); a negative word stands for position 0, and a position beyond the table has a record of zeros.
 use mathlib.Core.Path.{_≡_}
-use mathlib.Core.Bool.{Bool, false, cond}
+use mathlib.Core.Bool.{Bool, false}
 use mathlib.Core.List.{List, map}
 use Prim.Native.Nat.{ℕ, zero, suc}
 use lib.IntN.{ℤ, pos}
 use lib.ListN.{length}
 use lib.Signed.{ltZ}
-use Rattle.lists.specs.Plain.{toNat, by, byGreatest}
+use Rattle.lists.specs.Plain.{toNat, by}
 use Rattle.paper.specs.Descriptor.{segmentsOf, at}
 use Rattle.paper.specs.Answers.{badSlant}
 use Rattle.paper.specs.Words.{lowFirst}
@@ -48,6 +48,6 @@ module _ (table : List ℤ) (keys : Keys) where
   unfoldable pub levelOrder : ℤ → ℤ → Bool
   levelOrder = by levelWord ltZ
 
-  -- by the key, the smallest or the greatest first, then by (level, position)
+  -- by the key, then by (level, position)
   unfoldable pub keyOrder : ℤ → ℤ → Bool
-  keyOrder = cond (keys .high) (byGreatest keyWord levelOrder) (by keyWord levelOrder)
+  keyOrder = by keyWord levelOrder
