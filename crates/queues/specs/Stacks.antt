@@ -64,13 +64,18 @@ module _ (ws : List ℤ) (index : Index) (band : Band) (far : Bool) where
   abbrev left : Window → List ℕ → ℕ → List Event
   left w stack d = pending (λ j. queueOf ws index band far w (sizeAt stack j) (placeOf stack j)) d
 
+  -- a stacked queue: it has something to visit, lies in the words, and is the smaller the higher it lies
+  abbrev Held : List ℕ → ℕ → Type 0
+  Held stack j = (placeOf stack j + 2 * sizeAt stack j ≤ length ws) × (sizeAt stack j < 2 ^ (20 - j)) × (0 < sizeAt stack j)
+
   -- the loop's invariant
   pub record Stacked (height s₀ i₀ : ℕ) (st₀ : State) (stack : List ℕ) (d s i : ℕ) (st : State) : Type 0 where
     pub rest : (w : Window) → after (index .n) (index .lower) (queueOf ws index band far w s₀ i₀) st₀ ≡ after (index .n) (index .lower) (queueOf ws index band far w s i ++ left w stack d) st
     pub inside : i + 2 * s ≤ length ws
-    pub held : (j : ℕ) → j < d → (placeOf stack j + 2 * sizeAt stack j ≤ length ws) × (sizeAt stack j < 2 ^ (20 - j))
+    pub held : (j : ℕ) → j < d → Held stack j
     pub deep : d ≤ 20
     pub small : s < 2 ^ (20 - d)
+    pub going : st .0 .stopped ≡ 0
     pub visits : st .0 .visits + s + total (sizeAt stack) d ≤ st₀ .0 .visits + s₀
     pub few : st₀ .0 .visits + s₀ < 2 ^ 20
     pub long : length (st .1) ≡ length (st₀ .1)
@@ -78,14 +83,20 @@ module _ (ws : List ℤ) (index : Index) (band : Band) (far : Bool) where
     pub room : 40 ≤ height
 
   module _ (height s₀ i₀ : ℕ) (st₀ : State) where
-    pub stack-start : (stack : List ℕ) → length stack ≡ height → 40 ≤ height → i₀ + 2 * s₀ ≤ length ws → st₀ .0 .visits + s₀ < 2 ^ 20 → Stacked height s₀ i₀ st₀ stack 0 s₀ i₀ st₀
-    stack-start stack t g h v = record {
+    -- nothing is walked once a spoiled word has been read
+    pub stack-none : 0 < st₀ .0 .stopped → (w : Window) → Along (index .n) (index .lower) (queueOf ws index band far w s₀ i₀) s₀ st₀ st₀
+    stack-none h w = record { came = sym (after-stopped (index .n) (index .lower) (queueOf ws index band far w s₀ i₀) st₀ h); visits = omega arith }
+
+    pub stack-start : (stack : List ℕ) → length stack ≡ height → 40 ≤ height → i₀ + 2 * s₀ ≤ length ws → st₀ .0 .visits + s₀ < 2 ^ 20 → st₀ .0 .stopped ≡ 0
+        → Stacked height s₀ i₀ st₀ stack 0 s₀ i₀ st₀
+    stack-start stack t g h v o = record {
       rest = λ w. ap (λ (es : List Event). after (index .n) (index .lower) es st₀)
           (sym (append-nil (queueOf ws index band far w s₀ i₀)) ∙ ap (λ (es : List Event). queueOf ws index band far w s₀ i₀ ++ es) (sym (pending-none _)));
       inside = h;
       held = λ j l. absurd (omega arith);
       deep = omega arith;
       small = omega arith;
+      going = o;
       visits = omega (arith, total-none (sizeAt stack));
       few = v;
       long = refl;
@@ -94,12 +105,6 @@ module _ (ws : List ℤ) (index : Index) (band : Band) (far : Bool) where
     }
 
     module _ (stack : List ℕ) (d s i : ℕ) (st : State) (x : Stacked height s₀ i₀ st₀ stack d s i st) where
-      pub stack-stopped : 0 < st .0 .stopped → (w : Window) → Along (index .n) (index .lower) (queueOf ws index band far w s₀ i₀) s₀ st₀ st
-      stack-stopped h w = record {
-        came = sym (x .rest w ∙ after-stopped (index .n) (index .lower) (queueOf ws index band far w s i ++ left w stack d) st h);
-        visits = omega (arith, x .visits);
-      }
-
       pub stack-end : s ≡ 0 → d ≡ 0 → (w : Window) → Along (index .n) (index .lower) (queueOf ws index band far w s₀ i₀) s₀ st₀ st
       stack-end es ed w = record {
         came = sym (x .rest w
@@ -121,6 +126,7 @@ module _ (ws : List ℤ) (index : Index) (band : Band) (far : Bool) where
             held = λ j l. x .held j (omega arith);
             deep = omega (arith, x .deep);
             small = h .1;
+            going = x .going;
             visits = omega (arith, x .visits, ap (total (sizeAt stack)) ed, total-more (sizeAt stack) c);
             few = x .few;
             long = x .long;
@@ -153,99 +159,110 @@ module _ (ws : List ℤ) (index : Index) (band : Band) (far : Bool) where
             ∙ sym (after-append (index .n) (index .lower) (queueOf ws index band far w l (i + 2) ++ queueOf ws index band far w r (i + 2 + 2 * (s / 2))) (left w stack d) (h .tally, c))
             ∙ ap (λ (es : List Event). after (index .n) (index .lower) es (h .tally, c)) (append-assoc (queueOf ws index band far w l (i + 2)) (queueOf ws index band far w r (i + 2 + 2 * (s / 2))) (left w stack d))
 
-        -- there is no right one to walk
-        skipped : r ≡ 0 → Stacked height s₀ i₀ st₀ stack d l (i + 2) (h .tally, c)
-        skipped none = record {
-          rest = λ w. entered w ∙ ap (λ (es : List Event). after (index .n) (index .lower) (queueOf ws index band far w l (i + 2) ++ (es ++ left w stack d)) (h .tally, c))
-              (ap (λ (k : ℕ). queueOf ws index band far w k (i + 2 + 2 * (s / 2))) none ∙ queue-none ws index band far w (i + 2 + 2 * (s / 2)));
-          inside = omega (arith, x .inside, hl);
-          held = x .held;
-          deep = x .deep;
-          small = omega (arith, hl, x .small);
-          visits = omega (arith, x .visits, hl, hd .visits);
-          few = x .few;
-          long = lc ∙ x .long;
-          tall = x .tall;
-          room = x .room;
+        -- it read a spoiled word
+        pub stack-stopped : 0 < h .tally .stopped → (w : Window) → Along (index .n) (index .lower) (queueOf ws index band far w s₀ i₀) s₀ st₀ (h .tally, c)
+        stack-stopped g w = record {
+          came = sym (entered w ∙ after-stopped (index .n) (index .lower) _ (h .tally, c) g);
+          visits = omega (arith, x .visits, hd .visits);
         }
 
-        pub stack-skip : (stack′ : List ℕ) (e : ℕ) → stack′ ≡ stack → e ≡ d → r ≡ 0 → Stacked height s₀ i₀ st₀ stack′ e l (i + 2) (h .tally, c)
-        stack-skip stack′ e es ee none = rw (es, ee) (skipped none)
+        module _ (on : h .tally .stopped ≡ 0) where
+          -- there is no right one to walk
+          skipped : r ≡ 0 → Stacked height s₀ i₀ st₀ stack d l (i + 2) (h .tally, c)
+          skipped none = record {
+            rest = λ w. entered w ∙ ap (λ (es : List Event). after (index .n) (index .lower) (queueOf ws index band far w l (i + 2) ++ (es ++ left w stack d)) (h .tally, c))
+                (ap (λ (k : ℕ). queueOf ws index band far w k (i + 2 + 2 * (s / 2))) none ∙ queue-none ws index band far w (i + 2 + 2 * (s / 2)));
+            inside = omega (arith, x .inside, hl);
+            held = x .held;
+            deep = x .deep;
+            small = omega (arith, hl, x .small);
+            going = on;
+            visits = omega (arith, x .visits, hl, hd .visits);
+            few = x .few;
+            long = lc ∙ x .long;
+            tall = x .tall;
+            room = x .room;
+          }
 
-        pub skip-less : (stack′ : List ℕ) (e : ℕ) → stack′ ≡ stack → e ≡ d → work stack′ e l < work stack d s
-        skip-less stack′ e es ee = rw (es, ee) (omega (arith, hl))
+          pub stack-skip : (stack′ : List ℕ) (e : ℕ) → stack′ ≡ stack → e ≡ d → r ≡ 0 → Stacked height s₀ i₀ st₀ stack′ e l (i + 2) (h .tally, c)
+          stack-skip stack′ e es ee none = rw (es, ee) (skipped none)
 
-        -- there is no left one to walk: the right one is next
-        pub stack-right : l ≡ 0 → Stacked height s₀ i₀ st₀ stack d r (i + 2 + 2 * (s / 2)) (h .tally, c)
-        stack-right none = record {
-          rest = λ w. entered w ∙ ap (λ (es : List Event). after (index .n) (index .lower) (es ++ (queueOf ws index band far w r (i + 2 + 2 * (s / 2)) ++ left w stack d)) (h .tally, c))
-              (ap (λ (k : ℕ). queueOf ws index band far w k (i + 2)) none ∙ queue-none ws index band far w (i + 2));
-          inside = omega (arith, x .inside, hr);
-          held = x .held;
-          deep = x .deep;
-          small = omega (arith, hr, x .small);
-          visits = omega (arith, x .visits, hr, hd .visits);
-          few = x .few;
-          long = lc ∙ x .long;
-          tall = x .tall;
-          room = x .room;
-        }
+          pub skip-less : (stack′ : List ℕ) (e : ℕ) → stack′ ≡ stack → e ≡ d → work stack′ e l < work stack d s
+          skip-less stack′ e es ee = rw (es, ee) (omega (arith, hl))
 
-        pub right-less : work stack d r < work stack d s
-        right-less = omega (arith, hr)
+          -- there is no left one to walk: the right one is next
+          pub stack-right : l ≡ 0 → Stacked height s₀ i₀ st₀ stack d r (i + 2 + 2 * (s / 2)) (h .tally, c)
+          stack-right none = record {
+            rest = λ w. entered w ∙ ap (λ (es : List Event). after (index .n) (index .lower) (es ++ (queueOf ws index band far w r (i + 2 + 2 * (s / 2)) ++ left w stack d)) (h .tally, c))
+                (ap (λ (k : ℕ). queueOf ws index band far w k (i + 2)) none ∙ queue-none ws index band far w (i + 2));
+            inside = omega (arith, x .inside, hr);
+            held = x .held;
+            deep = x .deep;
+            small = omega (arith, hr, x .small);
+            going = on;
+            visits = omega (arith, x .visits, hr, hd .visits);
+            few = x .few;
+            long = lc ∙ x .long;
+            tall = x .tall;
+            room = x .room;
+          }
 
-        abbrev a : ℕ
-        a = i + 2 + 2 * (s / 2)
+          pub right-less : work stack d r < work stack d s
+          right-less = omega (arith, hr)
 
-        fits : (j : ℕ) → j < suc d → (placeOf (pushed stack d a r) j + 2 * sizeAt (pushed stack d a r) j ≤ length ws) × (sizeAt (pushed stack d a r) j < 2 ^ (20 - j))
-        fits =
-            let room : 2 * d + 1 < length stack = omega (arith, x .tall, x .room, stack-room some) in
-            below-suc (λ j. (placeOf (pushed stack d a r) j + 2 * sizeAt (pushed stack d a r) j ≤ length ws) × (sizeAt (pushed stack d a r) j < 2 ^ (20 - j))) d
-            (λ j g. (omega (arith, x .held j g .0, place-kept stack d a r j g, size-kept stack d a r j g), omega (arith, x .held j g .1, size-kept stack d a r j g)))
-            (omega (arith, x .inside, hr, place-top stack d a r room, size-top stack d a r room), omega (arith, hr, x .small, size-top stack d a r room))
+          abbrev a : ℕ
+          a = i + 2 + 2 * (s / 2)
 
-        -- its right one goes on the stack
-        stacking : Stacked height s₀ i₀ st₀ (pushed stack d a r) (suc d) l (i + 2) (h .tally, c)
-        stacking =
-            let d19 : d ≤ 19 = stack-room some in
-            let room : 2 * d + 1 < length stack = omega (arith, x .tall, x .room) in
-            let ts = size-top stack d a r room in
-            let tp = place-top stack d a r room in
-            let w : 20 - d ≡ suc (20 - suc d) = omega arith in
-            let pw : 2 ^ (20 - d) ≡ 2 ^ (20 - suc d) * 2 = ap (λ (b : ℕ). 2 ^ b) w ∙ pow-suc 2 (20 - suc d) in
-            record {
-              rest = λ w. entered w
-                  ∙ ap (λ (es : List Event). after (index .n) (index .lower) (queueOf ws index band far w l (i + 2) ++ es) (h .tally, c))
-                  ((λ k. queueOf ws index band far w (sym ts k) (sym tp k)
-                  ++ pending-same (λ j. queueOf ws index band far w (sizeAt stack j) (placeOf stack j)) (λ j. queueOf ws index band far w (sizeAt (pushed stack d a r) j) (placeOf (pushed stack d a r) j)) d
-                  (λ j g q. queueOf ws index band far w (sym (size-kept stack d a r j g) q) (sym (place-kept stack d a r j g) q)) k)
-                  ∙ sym (pending-more (λ j. queueOf ws index band far w (sizeAt (pushed stack d a r) j) (placeOf (pushed stack d a r) j)) d));
-              inside = omega (arith, x .inside, hl);
-              held = fits;
-              deep = omega arith;
-              small = omega (arith, hl, x .small, pw);
-              visits = omega (arith, x .visits, hl, hr, ts, total-more (sizeAt (pushed stack d a r)) d, total-same (sizeAt (pushed stack d a r)) (sizeAt stack) d (λ j g. size-kept stack d a r j g), hd .visits);
-              few = x .few;
-              long = lc ∙ x .long;
-              tall = length-set (set stack (2 * d) a) (2 * d + 1) r ∙ length-set stack (2 * d) a ∙ x .tall;
-              room = x .room;
-            }
+          fits : 0 < r → (j : ℕ) → j < suc d → Held (pushed stack d a r) j
+          fits more =
+              let room : 2 * d + 1 < length stack = omega (arith, x .tall, x .room, stack-room some) in
+              below-suc (Held (pushed stack d a r)) d
+              (λ j g. (omega (arith, x .held j g .0, place-kept stack d a r j g, size-kept stack d a r j g), omega (arith, x .held j g .1, size-kept stack d a r j g), omega (arith, x .held j g .2, size-kept stack d a r j g)))
+              (omega (arith, x .inside, hr, place-top stack d a r room, size-top stack d a r room), omega (arith, hr, x .small, size-top stack d a r room), omega (arith, more, size-top stack d a r room))
 
-        stacking-less : work (pushed stack d a r) (suc d) l < work stack d s
-        stacking-less =
-            let room : 2 * d + 1 < length stack = omega (arith, x .tall, x .room, stack-room some) in
-            omega (arith, total-more (sizeAt (pushed stack d a r)) d, size-top stack d a r room, total-same (sizeAt (pushed stack d a r)) (sizeAt stack) d (λ j g. size-kept stack d a r j g), hl, hr)
+          -- its right one goes on the stack
+          stacking : 0 < r → Stacked height s₀ i₀ st₀ (pushed stack d a r) (suc d) l (i + 2) (h .tally, c)
+          stacking more =
+              let d19 : d ≤ 19 = stack-room some in
+              let room : 2 * d + 1 < length stack = omega (arith, x .tall, x .room) in
+              let ts = size-top stack d a r room in
+              let tp = place-top stack d a r room in
+              let w : 20 - d ≡ suc (20 - suc d) = omega arith in
+              let pw : 2 ^ (20 - d) ≡ 2 ^ (20 - suc d) * 2 = ap (λ (b : ℕ). 2 ^ b) w ∙ pow-suc 2 (20 - suc d) in
+              record {
+                rest = λ w. entered w
+                    ∙ ap (λ (es : List Event). after (index .n) (index .lower) (queueOf ws index band far w l (i + 2) ++ es) (h .tally, c))
+                    ((λ k. queueOf ws index band far w (sym ts k) (sym tp k)
+                    ++ pending-same (λ j. queueOf ws index band far w (sizeAt stack j) (placeOf stack j)) (λ j. queueOf ws index band far w (sizeAt (pushed stack d a r) j) (placeOf (pushed stack d a r) j)) d
+                    (λ j g q. queueOf ws index band far w (sym (size-kept stack d a r j g) q) (sym (place-kept stack d a r j g) q)) k)
+                    ∙ sym (pending-more (λ j. queueOf ws index band far w (sizeAt (pushed stack d a r) j) (placeOf (pushed stack d a r) j)) d));
+                inside = omega (arith, x .inside, hl);
+                held = fits more;
+                deep = omega arith;
+                small = omega (arith, hl, x .small, pw);
+                going = on;
+                visits = omega (arith, x .visits, hl, hr, ts, total-more (sizeAt (pushed stack d a r)) d, total-same (sizeAt (pushed stack d a r)) (sizeAt stack) d (λ j g. size-kept stack d a r j g), hd .visits);
+                few = x .few;
+                long = lc ∙ x .long;
+                tall = length-set (set stack (2 * d) a) (2 * d + 1) r ∙ length-set stack (2 * d) a ∙ x .tall;
+                room = x .room;
+              }
 
-        module _ (stack′ : List ℕ) (e : ℕ) (es : stack′ ≡ pushed stack d a r) (ee : e ≡ d + 1) where
-          one-more : e ≡ suc d
-          one-more = omega arith
+          stacking-less : work (pushed stack d a r) (suc d) l < work stack d s
+          stacking-less =
+              let room : 2 * d + 1 < length stack = omega (arith, x .tall, x .room, stack-room some) in
+              omega (arith, total-more (sizeAt (pushed stack d a r)) d, size-top stack d a r room, total-same (sizeAt (pushed stack d a r)) (sizeAt stack) d (λ j g. size-kept stack d a r j g), hl, hr)
 
-          pub stack-push : Stacked height s₀ i₀ st₀ stack′ e l (i + 2) (h .tally, c)
-          stack-push = rw (es, one-more) stacking
+          module _ (stack′ : List ℕ) (e : ℕ) (es : stack′ ≡ pushed stack d a r) (ee : e ≡ d + 1) where
+            one-more : e ≡ suc d
+            one-more = omega arith
 
-          pub push-less : work stack′ e l < work stack d s
-          push-less = rw (es, one-more) stacking-less
+            pub stack-push : 0 < r → Stacked height s₀ i₀ st₀ stack′ e l (i + 2) (h .tally, c)
+            stack-push more = rw (es, one-more) (stacking more)
 
--- ---- the loop's test and measure
+            pub push-less : work stack′ e l < work stack d s
+            push-less = rw (es, one-more) stacking-less
+
+-- ---- the loop's measure
 pub pop-less : (stack : List ℕ) (d s c : ℕ) → d ≡ suc c → work stack c (sizeAt stack c) < work stack d s
 pop-less stack d s c e = omega (arith, ap (total (sizeAt stack)) e, total-more (sizeAt stack) c)

@@ -142,35 +142,38 @@ pub fn queue(
     requires { ⌜ (tally0 .visits + size0 < 2 ^ 20) × (40 ≤ length (now stack)) ⌝ }
     ensures { λ r. ⌜ ((w : Window) → Along (index .n) (index .lower) (queueOf (now (words .entry)) index band high w size0 at0) size0 (tally0, now (numbers .entry)) (r, now (numbers .exit))) ⌝ }
 {
+    if 0 < tally0.stopped {
+        return tally0;
+    }
     let mut depth: usize = 0;
     let mut tally = tally0;
     let mut at = at0;
     let mut size = size0;
-    while (0 < size) | (0 < depth) {
-        if size == 0 {
+    while 0 < size {
+        let head = enter(words, numbers, index, band, high, tally, at);
+        let next = head.tally;
+        tally = next;
+        if 0 < tally.stopped {
+            return tally;
+        }
+        let half = size / 2;
+        let left = size_if(head.left, half);
+        let right = size_if(head.right, size - 1 - half);
+        if 0 < left {
+            if 0 < right {
+                depth = push(stack, depth, at + 2 + 2 * half, right);
+            }
+            at = at + 2;
+            size = left;
+        } else if 0 < right {
+            at = at + 2 + 2 * half;
+            size = right;
+        } else if 0 < depth {
             depth = depth - 1;
             at = stack[2 * depth];
             size = stack[2 * depth + 1];
         } else {
-            if 0 < tally.stopped {
-                return tally;
-            }
-            let head = enter(words, numbers, index, band, high, tally, at);
-            let half = size / 2;
-            let left = size_if(head.left, half);
-            let right = size_if(head.right, size - 1 - half);
-            let next = head.tally;
-            tally = next;
-            if left == 0 {
-                at = at + 2 + 2 * half;
-                size = right;
-            } else {
-                if 0 < right {
-                    depth = push(stack, depth, at + 2 + 2 * half, right);
-                }
-                at = at + 2;
-                size = left;
-            }
+            return tally;
         }
     }
     tally
