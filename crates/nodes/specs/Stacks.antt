@@ -133,11 +133,17 @@ module _ (ws : List ℤ) (index : Index) (w : Window) where
       ∙ turned .rest (λ k. walk l (half size) k (i + 2 * index .n)) (λ k. walk l (size - half size) k (i + 2 * index .n + half size))
       ∙ ap (λ (k : ℕ). does (when (h .below) (walk k (half size) (h .left) (i + 2 * index .n) ++ walk k (size - half size) (p - h .left) (i + 2 * index .n + half size))) (h .tally, c)) e
 
+  -- a stacked node: its levels and words are there, it lies the higher the fewer its levels, and it is not empty
+  abbrev Held : ℕ → List ℕ → ℕ → Type 0
+  Held levels₀ stack j =
+      Deep ws (index .n) (levelsOf stack j) (sizeAt stack j) (fromOf stack j) (placeOf stack j) × (levelsOf stack j + j < levels₀) × (0 < sizeAt stack j)
+
   -- ---- the loop's invariant
   pub record Stacked (height levels₀ size₀ p₀ i₀ : ℕ) (st₀ : State) (stack : List ℕ) (d levels size p i : ℕ) (st : State) : Type 0 where
     pub rest : does (walk levels₀ size₀ p₀ i₀) st₀ ≡ does (walkIf levels size p i ++ left stack d) st
     pub fits : 0 < size → Deep ws (index .n) levels size p i
-    pub held : (j : ℕ) → j < d → Deep ws (index .n) (levelsOf stack j) (sizeAt stack j) (fromOf stack j) (placeOf stack j) × (levelsOf stack j + j < levels₀)
+    pub held : (j : ℕ) → j < d → Held levels₀ stack j
+    pub going : st .0 .stopped ≡ 0
     pub deep : levels + d ≤ levels₀
     pub low : levels₀ ≤ 18
     pub visits : st .0 .visits + weight size + weights stack d ≤ st₀ .0 .visits + 3 * size₀
@@ -147,13 +153,18 @@ module _ (ws : List ℤ) (index : Index) (w : Window) where
     pub room : 72 ≤ height
 
   module _ (height levels₀ size₀ p₀ i₀ : ℕ) (st₀ : State) where
+    -- nothing is walked once a spoiled word has been read
+    pub stack-none : 0 < st₀ .0 .stopped → Along (index .n) (index .lower) (walk levels₀ size₀ p₀ i₀) (3 * size₀) st₀ st₀
+    stack-none h = record { came = sym (after-stopped _ _ (walk levels₀ size₀ p₀ i₀) st₀ h); visits = omega arith }
+
     pub stack-start : (stack : List ℕ) → length stack ≡ height → 72 ≤ height → levels₀ ≤ 18 → 0 < size₀ → Deep ws (index .n) levels₀ size₀ p₀ i₀ → st₀ .0 .visits + 3 * size₀ < 2 ^ 20
-        → Stacked height levels₀ size₀ p₀ i₀ st₀ stack 0 levels₀ size₀ p₀ i₀ st₀
-    stack-start stack t g l h f v = record {
+        → st₀ .0 .stopped ≡ 0 → Stacked height levels₀ size₀ p₀ i₀ st₀ stack 0 levels₀ size₀ p₀ i₀ st₀
+    stack-start stack t g l h f v o = record {
       rest = ap (λ (es : List Event). does es st₀)
           (sym (walk-some levels₀ size₀ p₀ i₀ h) ∙ sym (append-nil (walkIf levels₀ size₀ p₀ i₀)) ∙ ap (λ (es : List Event). walkIf levels₀ size₀ p₀ i₀ ++ es) (sym (pending-none (entry stack))));
       fits = λ _. f;
       held = λ j q. absurd (omega arith);
+      going = o;
       deep = omega arith;
       low = l;
       visits = omega (arith, total-none (λ j. weight (sizeAt stack j)));
@@ -164,9 +175,6 @@ module _ (ws : List ℤ) (index : Index) (w : Window) where
     }
 
     module _ (stack : List ℕ) (d levels size p i : ℕ) (st : State) (x : Stacked height levels₀ size₀ p₀ i₀ st₀ stack d levels size p i st) where
-      pub stack-stopped : 0 < st .0 .stopped → Along (index .n) (index .lower) (walk levels₀ size₀ p₀ i₀) (3 * size₀) st₀ st
-      stack-stopped h = record { came = sym (x .rest ∙ after-stopped _ _ (walkIf levels size p i ++ left stack d) st h); visits = omega (arith, x .visits) }
-
       pub stack-end : size ≡ 0 → d ≡ 0 → Along (index .n) (index .lower) (walk levels₀ size₀ p₀ i₀) (3 * size₀) st₀ st
       stack-end es ed = record {
         came = sym (x .rest
@@ -187,6 +195,7 @@ module _ (ws : List ℤ) (index : Index) (w : Window) where
                 ∙ ap (λ (a : List Event). does a st) (pending-more (entry stack) c);
             fits = λ _. h .0;
             held = λ j l. x .held j (omega arith);
+            going = x .going;
             deep = omega (arith, h .1);
             low = x .low;
             visits = omega (arith, x .visits, ap (λ (b : ℕ). weights stack b) ed, total-more (λ j. weight (sizeAt stack j)) c);
@@ -206,150 +215,157 @@ module _ (ws : List ℤ) (index : Index) (w : Window) where
             ∙ ap (does (left stack d)) (stepped levels size p i z (x .fits some .tall) ez st h c turned)
             ∙ sym (after-append _ _ _ (left stack d) (h .tally, c))
 
-        -- the walk does not go on below it
-        pub stack-flat : h .below ≡ false → Stacked height levels₀ size₀ p₀ i₀ st₀ stack d levels 0 p i (h .tally, c)
-        stack-flat e = record {
-          rest = entered
-              ∙ ap (λ (b : Bool). does (when b (walk (levels - 1) (half size) (h .left) (i + 2 * index .n) ++ walk (levels - 1) (size - half size) (p - h .left) (i + 2 * index .n + half size)) ++ left stack d) (h .tally, c)) e
-              ∙ ap (λ (es : List Event). does (es ++ left stack d) (h .tally, c)) (sym (walk-none levels 0 p i refl));
-          fits = λ q. absurd (omega arith);
-          held = x .held;
-          deep = x .deep;
-          low = x .low;
-          visits = omega (arith, x .visits, turned .few);
-          few = x .few;
-          long = lc ∙ x .long;
-          tall = x .tall;
-          room = x .room;
-        }
+        -- it read a spoiled word
+        pub stack-stopped : 0 < h .tally .stopped → Along (index .n) (index .lower) (walk levels₀ size₀ p₀ i₀) (3 * size₀) st₀ (h .tally, c)
+        stack-stopped g = record { came = sym (entered ∙ after-stopped _ _ _ (h .tally, c) g); visits = omega (arith, x .visits, turned .few) }
 
-        module _ (e : h .below ≡ true) where
-          f1 : 1 < size
-          f1 = turned .fits e .0
-
-          pub levels-left : 0 < levels
-          levels-left = go levels (x .fits some .tall)
-            where
-              go : (l : ℕ) → size ≤ 2 ^ l → 0 < l
-              go zero q = absurd (omega (arith, f1))
-              go (suc l) q = omega arith
-
-          pub stack-room : d ≤ 17
-          stack-room = omega (arith, levels-left, x .deep, x .low)
-
-          pub left-from : h .left ≤ p
-          left-from = turned .fits e .1
-
-          abbrev l : ℕ
-          l = levels - 1
-
-          abbrev r : ℕ
-          r = size - half size
-
-          abbrev k : ℕ
-          k = h .left
-
-          abbrev down : ℕ
-          down = i + 2 * index .n
-
-          pub down-inside : down + 2 * index .n * l ≡ i + 2 * index .n * levels
-          down-inside =
-              let q : levels ≡ suc l = omega (arith, levels-left) in
-              omega (arith, ap (λ (b : ℕ). 2 * index .n * b) q, mul-suc (2 * index .n) l)
-
-          twice : 2 ^ levels ≡ 2 ^ l * 2
-          twice = let q : levels ≡ suc l = omega (arith, levels-left) in ap (λ (b : ℕ). 2 ^ b) q ∙ pow-suc 2 l
-
-          deep-left : Deep ws (index .n) l (half size) k down
-          deep-left = record {
-            tall = omega (arith, x .fits some .tall, twice);
-            from = turned .fits e .2;
-            inside = omega (arith, x .fits some .inside, down-inside);
-          }
-
-          deep-right : Deep ws (index .n) l r (p - k) (down + half size)
-          deep-right = record {
-            tall = omega (arith, x .fits some .tall, twice);
-            from = turned .fits e .3;
-            inside = omega (arith, x .fits some .inside, down-inside);
-          }
-
-          abbrev next : List ℕ
-          next = pushed stack d l r (p - k) (down + half size)
-
-          space : 4 * d + 3 < length stack
-          space = omega (arith, x .tall, x .room, stack-room)
-
-          entry-kept : (j : ℕ) → j < d → entry stack j ≡ entry next j
-          entry-kept j g = λ q. walkIf
-              (sym (kept stack d l r (p - k) (down + half size) (4 * j) (omega arith)) q) (sym (kept stack d l r (p - k) (down + half size) (4 * j + 1) (omega arith)) q)
-              (sym (kept stack d l r (p - k) (down + half size) (4 * j + 2) (omega arith)) q) (sym (kept stack d l r (p - k) (down + half size) (4 * j + 3) (omega arith)) q)
-
-          entry-top : walk l r (p - k) (down + half size) ≡ entry next d
-          entry-top =
-              sym (walk-some l r (p - k) (down + half size) (omega (arith, f1)))
-              ∙ (λ q. walkIf (sym (top-levels stack d l r (p - k) (down + half size) space) q) (sym (top-size stack d l r (p - k) (down + half size) space) q)
-              (sym (top-from stack d l r (p - k) (down + half size) space) q) (sym (top-place stack d l r (p - k) (down + half size) space) q))
-
-          weights-kept : weights next d ≡ weights stack d
-          weights-kept = total-same (λ j. weight (sizeAt next j)) (λ j. weight (sizeAt stack j)) d
-              (λ j g. ap weight (kept stack d l r (p - k) (down + half size) (4 * j + 1) (omega arith)))
-
-          weights-more : weights next (suc d) ≡ weight r + weights stack d
-          weights-more =
-              total-more (λ j. weight (sizeAt next j)) d
-              ∙ ap₂ _+_ (ap weight (top-size stack d l r (p - k) (down + half size) space)) weights-kept
-
-          held-next : (j : ℕ) → j < suc d → Deep ws (index .n) (levelsOf next j) (sizeAt next j) (fromOf next j) (placeOf next j) × (levelsOf next j + j < levels₀)
-          held-next =
-              below-suc (λ j. Deep ws (index .n) (levelsOf next j) (sizeAt next j) (fromOf next j) (placeOf next j) × (levelsOf next j + j < levels₀)) d
-              (λ j g. rw (
-                kept stack d l r (p - k) (down + half size) (4 * j) (omega arith),
-                kept stack d l r (p - k) (down + half size) (4 * j + 1) (omega arith),
-                kept stack d l r (p - k) (down + half size) (4 * j + 2) (omega arith),
-                kept stack d l r (p - k) (down + half size) (4 * j + 3) (omega arith),
-              ) (x .held j g))
-              (rw (
-                top-levels stack d l r (p - k) (down + half size) space,
-                top-size stack d l r (p - k) (down + half size) space,
-                top-from stack d l r (p - k) (down + half size) space,
-                top-place stack d l r (p - k) (down + half size) space,
-              )
-              (deep-right, omega (arith, x .deep, levels-left)))
-
-          stacking : Stacked height levels₀ size₀ p₀ i₀ st₀ next (suc d) l (half size) k down (h .tally, c)
-          stacking = record {
+        module _ (on : h .tally .stopped ≡ 0) where
+          -- the walk does not go on below it
+          pub stack-flat : h .below ≡ false → Stacked height levels₀ size₀ p₀ i₀ st₀ stack d levels 0 p i (h .tally, c)
+          stack-flat e = record {
             rest = entered
-                ∙ ap (λ (b : Bool). does (when b (walk l (half size) k down ++ walk l r (p - k) (down + half size)) ++ left stack d) (h .tally, c)) e
-                ∙ ap (λ (es : List Event). does es (h .tally, c))
-                (append-assoc (walk l (half size) k down) (walk l r (p - k) (down + half size)) (left stack d)
-                ∙ ap₂ _++_ (sym (walk-some l (half size) k down (omega (arith, f1))))
-                (ap₂ _++_ entry-top (pending-same (entry stack) (entry next) d entry-kept) ∙ sym (pending-more (entry next) d)));
-            fits = λ _. deep-left;
-            held = held-next;
-            deep = omega (arith, x .deep, levels-left);
+                ∙ ap (λ (b : Bool). does (when b (walk (levels - 1) (half size) (h .left) (i + 2 * index .n) ++ walk (levels - 1) (size - half size) (p - h .left) (i + 2 * index .n + half size)) ++ left stack d) (h .tally, c)) e
+                ∙ ap (λ (es : List Event). does (es ++ left stack d) (h .tally, c)) (sym (walk-none levels 0 p i refl));
+            fits = λ q. absurd (omega arith);
+            held = x .held;
+            going = on;
+            deep = x .deep;
             low = x .low;
-            visits = omega (arith, x .visits, turned .one e, weights-more, halves size f1);
+            visits = omega (arith, x .visits, turned .few);
             few = x .few;
             long = lc ∙ x .long;
-            tall = pushed-length stack d l r (p - k) (down + half size) ∙ x .tall;
+            tall = x .tall;
             room = x .room;
           }
 
-          stacking-less : work next (suc d) (half size) < work stack d size
-          stacking-less = omega (arith, weights-more, halves size f1)
+          module _ (e : h .below ≡ true) where
+            f1 : 1 < size
+            f1 = turned .fits e .0
 
-          -- its right one goes on the stack, its left one is next
-          module _ (stack′ : List ℕ) (d′ : ℕ) (es : stack′ ≡ next) (ed : d′ ≡ d + 1) where
-            one-more : d′ ≡ suc d
-            one-more = omega arith
+            pub levels-left : 0 < levels
+            levels-left = go levels (x .fits some .tall)
+              where
+                go : (l : ℕ) → size ≤ 2 ^ l → 0 < l
+                go zero q = absurd (omega (arith, f1))
+                go (suc l) q = omega arith
 
-            pub stack-push : Stacked height levels₀ size₀ p₀ i₀ st₀ stack′ d′ l (half size) k down (h .tally, c)
-            stack-push = rw (es, one-more) stacking
+            pub stack-room : d ≤ 17
+            stack-room = omega (arith, levels-left, x .deep, x .low)
 
-            pub push-less : work stack′ d′ (half size) < work stack d size
-            push-less = rw (es, one-more) stacking-less
+            pub left-from : h .left ≤ p
+            left-from = turned .fits e .1
 
--- ---- the loop's test and measure
+            abbrev l : ℕ
+            l = levels - 1
+
+            abbrev r : ℕ
+            r = size - half size
+
+            abbrev k : ℕ
+            k = h .left
+
+            abbrev down : ℕ
+            down = i + 2 * index .n
+
+            pub down-inside : down + 2 * index .n * l ≡ i + 2 * index .n * levels
+            down-inside =
+                let q : levels ≡ suc l = omega (arith, levels-left) in
+                omega (arith, ap (λ (b : ℕ). 2 * index .n * b) q, mul-suc (2 * index .n) l)
+
+            twice : 2 ^ levels ≡ 2 ^ l * 2
+            twice = let q : levels ≡ suc l = omega (arith, levels-left) in ap (λ (b : ℕ). 2 ^ b) q ∙ pow-suc 2 l
+
+            deep-left : Deep ws (index .n) l (half size) k down
+            deep-left = record {
+              tall = omega (arith, x .fits some .tall, twice);
+              from = turned .fits e .2;
+              inside = omega (arith, x .fits some .inside, down-inside);
+            }
+
+            deep-right : Deep ws (index .n) l r (p - k) (down + half size)
+            deep-right = record {
+              tall = omega (arith, x .fits some .tall, twice);
+              from = turned .fits e .3;
+              inside = omega (arith, x .fits some .inside, down-inside);
+            }
+
+            abbrev next : List ℕ
+            next = pushed stack d l r (p - k) (down + half size)
+
+            space : 4 * d + 3 < length stack
+            space = omega (arith, x .tall, x .room, stack-room)
+
+            entry-kept : (j : ℕ) → j < d → entry stack j ≡ entry next j
+            entry-kept j g = λ q. walkIf
+                (sym (kept stack d l r (p - k) (down + half size) (4 * j) (omega arith)) q) (sym (kept stack d l r (p - k) (down + half size) (4 * j + 1) (omega arith)) q)
+                (sym (kept stack d l r (p - k) (down + half size) (4 * j + 2) (omega arith)) q) (sym (kept stack d l r (p - k) (down + half size) (4 * j + 3) (omega arith)) q)
+
+            entry-top : walk l r (p - k) (down + half size) ≡ entry next d
+            entry-top =
+                sym (walk-some l r (p - k) (down + half size) (omega (arith, f1)))
+                ∙ (λ q. walkIf (sym (top-levels stack d l r (p - k) (down + half size) space) q) (sym (top-size stack d l r (p - k) (down + half size) space) q)
+                (sym (top-from stack d l r (p - k) (down + half size) space) q) (sym (top-place stack d l r (p - k) (down + half size) space) q))
+
+            weights-kept : weights next d ≡ weights stack d
+            weights-kept = total-same (λ j. weight (sizeAt next j)) (λ j. weight (sizeAt stack j)) d
+                (λ j g. ap weight (kept stack d l r (p - k) (down + half size) (4 * j + 1) (omega arith)))
+
+            weights-more : weights next (suc d) ≡ weight r + weights stack d
+            weights-more =
+                total-more (λ j. weight (sizeAt next j)) d
+                ∙ ap₂ _+_ (ap weight (top-size stack d l r (p - k) (down + half size) space)) weights-kept
+
+            held-next : (j : ℕ) → j < suc d → Held levels₀ next j
+            held-next =
+                below-suc (Held levels₀ next) d
+                (λ j g. rw (
+                  kept stack d l r (p - k) (down + half size) (4 * j) (omega arith),
+                  kept stack d l r (p - k) (down + half size) (4 * j + 1) (omega arith),
+                  kept stack d l r (p - k) (down + half size) (4 * j + 2) (omega arith),
+                  kept stack d l r (p - k) (down + half size) (4 * j + 3) (omega arith),
+                ) (x .held j g))
+                (rw (
+                  top-levels stack d l r (p - k) (down + half size) space,
+                  top-size stack d l r (p - k) (down + half size) space,
+                  top-from stack d l r (p - k) (down + half size) space,
+                  top-place stack d l r (p - k) (down + half size) space,
+                )
+                (deep-right, omega (arith, x .deep, levels-left), omega (arith, f1)))
+
+            stacking : Stacked height levels₀ size₀ p₀ i₀ st₀ next (suc d) l (half size) k down (h .tally, c)
+            stacking = record {
+              rest = entered
+                  ∙ ap (λ (b : Bool). does (when b (walk l (half size) k down ++ walk l r (p - k) (down + half size)) ++ left stack d) (h .tally, c)) e
+                  ∙ ap (λ (es : List Event). does es (h .tally, c))
+                  (append-assoc (walk l (half size) k down) (walk l r (p - k) (down + half size)) (left stack d)
+                  ∙ ap₂ _++_ (sym (walk-some l (half size) k down (omega (arith, f1))))
+                  (ap₂ _++_ entry-top (pending-same (entry stack) (entry next) d entry-kept) ∙ sym (pending-more (entry next) d)));
+              fits = λ _. deep-left;
+              held = held-next;
+              going = on;
+              deep = omega (arith, x .deep, levels-left);
+              low = x .low;
+              visits = omega (arith, x .visits, turned .one e, weights-more, halves size f1);
+              few = x .few;
+              long = lc ∙ x .long;
+              tall = pushed-length stack d l r (p - k) (down + half size) ∙ x .tall;
+              room = x .room;
+            }
+
+            stacking-less : work next (suc d) (half size) < work stack d size
+            stacking-less = omega (arith, weights-more, halves size f1)
+
+            -- its right one goes on the stack, its left one is next
+            module _ (stack′ : List ℕ) (d′ : ℕ) (es : stack′ ≡ next) (ed : d′ ≡ d + 1) where
+              one-more : d′ ≡ suc d
+              one-more = omega arith
+
+              pub stack-push : Stacked height levels₀ size₀ p₀ i₀ st₀ stack′ d′ l (half size) k down (h .tally, c)
+              stack-push = rw (es, one-more) stacking
+
+              pub push-less : work stack′ d′ (half size) < work stack d size
+              push-less = rw (es, one-more) stacking-less
+
+-- ---- the loop's measure
 pub pop-less : (stack : List ℕ) (d size c : ℕ) → d ≡ suc c → work stack c (sizeAt stack c) < work stack d size
 pop-less stack d size c e = omega (arith, ap (λ (b : ℕ). weights stack b) e, total-more (λ j. weight (sizeAt stack j)) c)

@@ -170,6 +170,9 @@ pub fn nodes(
     requires { ⌜ tally0 .visits + 3 * size0 < 2 ^ 20 ⌝ }
     ensures { λ r. ⌜ Along (index .n) (index .lower) (nodeWalk (now (words .entry)) (index .n) window levels0 size0 p0 at0) (3 * size0) (tally0, now (numbers .entry)) (r, now (numbers .exit)) ⌝ }
 {
+    if 0 < tally0.stopped {
+        return tally0;
+    }
     let n = index.n;
     let mut depth: usize = 0;
     let mut tally = tally0;
@@ -177,40 +180,38 @@ pub fn nodes(
     let mut size = size0;
     let mut p = p0;
     let mut at = at0;
-    while (0 < size) | (0 < depth) {
-        if size == 0 {
+    while 0 < size {
+        let turn = one_node(
+            words,
+            numbers,
+            index,
+            window,
+            tally,
+            size,
+            p,
+            at,
+            at + 2 * n * levels,
+        );
+        let next = turn.tally;
+        tally = next;
+        if 0 < tally.stopped {
+            return tally;
+        }
+        if turn.below {
+            let left = (size + 1) / 2;
+            levels = levels - 1;
+            at = at + 2 * n;
+            depth = push(stack, depth, levels, size - left, p - turn.left, at + left);
+            size = left;
+            p = turn.left;
+        } else if 0 < depth {
             depth = depth - 1;
             levels = stack[4 * depth];
             size = stack[4 * depth + 1];
             p = stack[4 * depth + 2];
             at = stack[4 * depth + 3];
         } else {
-            if 0 < tally.stopped {
-                return tally;
-            }
-            let turn = one_node(
-                words,
-                numbers,
-                index,
-                window,
-                tally,
-                size,
-                p,
-                at,
-                at + 2 * n * levels,
-            );
-            let next = turn.tally;
-            tally = next;
-            if turn.below {
-                let left = (size + 1) / 2;
-                levels = levels - 1;
-                at = at + 2 * n;
-                depth = push(stack, depth, levels, size - left, p - turn.left, at + left);
-                size = left;
-                p = turn.left;
-            } else {
-                size = 0;
-            }
+            return tally;
         }
     }
     tally

@@ -1,11 +1,11 @@
 -- What a walk has still to do, kept on a stack of d entries: the events of each, the last entry first, and the sum of their sizes.
 use mathlib.Core.Path.{_≡_, refl, sym, ap, ap₂, _∙_, subst}
-use mathlib.Core.Bool.{Bool, true, false, true≢false, _||_}
+use mathlib.Core.Bool.{Bool, true, false}
 use mathlib.Core.List.{List, [], _++_}
 use Prim.Native.Nat.{ℕ, zero, suc, _+_, _<_}
 use native.Mathlib.Omega.{arith}
 use lib.Dec.{ltb}
-use borrow.Author.Tests.{ltb-true, ltb-false, le-ltb}
+use borrow.Author.Tests.{ltb-true, ltb-false}
 use Rattle.paper.specs.Walk.{Event}
 
 unfoldable pub pending : (ℕ → List Event) → ℕ → List Event
@@ -49,15 +49,3 @@ below-suc P d f p j h = go (ltb j d) refl
     go : (t : Bool) → ltb j d ≡ t → P j
     go true e = f j (ltb-true j d e)
     go false e = let q : d ≡ j = omega (arith, ltb-false j d e) in subst P q p
-
--- ---- the test of a loop over a current entry of a size and d stacked ones
-pub some-left : (s d : ℕ) → (ltb 0 s || ltb 0 d) ≡ true → s ≡ 0 → 0 < d
-some-left s d h e = ltb-true 0 d (sym (ap (λ (b : Bool). b || ltb 0 d) (le-ltb 0 s (omega arith))) ∙ h)
-
-pub none-left : (s d : ℕ) → (ltb 0 s || ltb 0 d) ≡ false → (s ≡ 0) × (d ≡ 0)
-none-left s d h = go (ltb 0 s) (ltb 0 d) refl refl h
-  where
-    go : (a b : Bool) → ltb 0 s ≡ a → ltb 0 d ≡ b → (a || b) ≡ false → (s ≡ 0) × (d ≡ 0)
-    go true b ea eb q = absurd (true≢false q)
-    go false true ea eb q = absurd (true≢false q)
-    go false false ea eb q = (omega (arith, ltb-false 0 s ea), omega (arith, ltb-false 0 d eb))
