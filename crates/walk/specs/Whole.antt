@@ -1,12 +1,13 @@
 -- The whole walk from its groups.
-use mathlib.Core.Path.{_≡_, sym, ap, _∙_, subst}
+use mathlib.Core.Path.{_≡_, refl, sym, ap, _∙_, subst}
 use mathlib.Core.Bool.{Bool, not}
-use mathlib.Core.List.{List, _++_}
-use Prim.Native.Nat.{ℕ, suc, _+_, _-_, _*_, _≤_, _<_}
+use mathlib.Core.List.{List, [], _++_}
+use Prim.Native.Nat.{ℕ, zero, suc, _+_, _-_, _*_, _^_, _≤_, _<_}
 use native.Mathlib.Omega.{arith}
 use native.Mathlib.Nat.{mul-suc}
 use borrow.Author.Tests.{eq-eqb, ne-eqb}
 use lib.IntN.{ℤ}
+use lib.ListN.{length}
 use Rattle.lists.specs.Plain.{toNat}
 use Rattle.paper.specs.Words.{L, D, levelsAt, blocksAt}
 use Rattle.paper.specs.Walk.{Event, word, when, search, nodeWalk, sizeIn, walk, walkOf}
@@ -27,6 +28,18 @@ acrossOf w = record { axis = 0; edge = w .a; low = w .c; high = w .d }
 
 abbrev pub uprightOf : Window → Band
 uprightOf w = record { axis = 1; edge = w .c; low = w .a; high = w .b }
+
+abbrev pub bandOf : Window → ℕ → Band
+bandOf w zero = acrossOf w
+bandOf w (suc a) = uprightOf w
+
+pub band-other : (w : Window) (a : ℕ) → (a ≡ 0 → ⊥) → uprightOf w ≡ bandOf w a
+band-other w zero h = absurd (h refl)
+band-other w (suc a) h = refl
+
+pub band-axis : (w : Window) (a : ℕ) → bandOf w a .axis < 2
+band-axis w zero = omega arith
+band-axis w (suc a) = omega arith
 
 module _ (ws : List ℤ) (w : Window) where
   abbrev n : ℕ
@@ -108,6 +121,66 @@ module _ (ws : List ℤ) (w : Window) where
   abbrev groups : List Event
   groups = search ws n w (λ p. nodesFrom p ++ (acrossBlocks ++ uprightBlocks))
 
+  -- the groups of the horizontals and the verticals
+  abbrev pub Crossed : State → State → Type 0
+  Crossed s r = Along n (word ws 1) (acrossBlocks ++ uprightBlocks) (2 * n) s r
+
+  -- ---- the loop over the axes: from one on, the events, where they begin, and over how many they are
+  abbrev blocksFrom : ℕ → List Event
+  blocksFrom zero = acrossBlocks ++ uprightBlocks
+  blocksFrom (suc zero) = uprightBlocks
+  blocksFrom (suc (suc a)) = []
+
+  abbrev placeFrom : ℕ → ℕ
+  placeFrom zero = blocksAt n
+  placeFrom (suc zero) = blocksAt n + 8 * mh
+  placeFrom (suc (suc a)) = blocksAt n + 8 * mh + 8 * mv
+
+  abbrev overFrom : ℕ → ℕ
+  overFrom zero = mh + mv
+  overFrom (suc zero) = mv
+  overFrom (suc (suc a)) = 0
+
+  pub record Crossing (s : State) (axis at : ℕ) (r : State) : Type 0 where
+    pub rest : does (acrossBlocks ++ uprightBlocks) s ≡ does (blocksFrom axis) r
+    pub place : at ≡ placeFrom axis
+    pub visits : r .0 .visits + 2 * overFrom axis ≤ s .0 .visits + 2 * n
+    pub long : length (r .1) ≡ length (s .1)
+
+  module _ (sound : Sound ws) (s : State) where
+    pub crossing-start : (at : ℕ) → at ≡ blocksAt n → Crossing s 0 at s
+    crossing-start at e = record { rest = refl; place = e; visits = omega (arith, sound .counts); long = refl }
+
+    pub crossing-end : (axis at : ℕ) (r : State) → 2 ≤ axis → Crossing s axis at r → Crossed s r
+    crossing-end zero at r h x = absurd (omega arith)
+    crossing-end (suc zero) at r h x = absurd (omega arith)
+    crossing-end (suc (suc a)) at r h x = record { came = sym (x .rest ∙ after-end n (word ws 1) r); visits = omega (arith, x .visits) }
+
+    -- the words of the blocks along an axis are there, and their visits are few
+    pub crossing-fits : s .0 .visits ≤ 4 * n → (axis at : ℕ) (r : State) → axis < 2 → Crossing s axis at r → (m : ℕ) → m ≡ toNat (word ws (2 + axis))
+        → (at + 8 * m ≤ length ws) × (r .0 .visits + 2 * m < 2 ^ 20)
+    crossing-fits v zero at r h x m e = (omega (arith, x .place, e, sound .words, sound .counts), omega (arith, v, x .visits, e, sound .counts, sound .most))
+    crossing-fits v (suc zero) at r h x m e = (omega (arith, x .place, e, sound .words, sound .counts), omega (arith, v, x .visits, e, sound .counts, sound .most))
+    crossing-fits v (suc (suc a)) at r h x m e = absurd (omega arith)
+
+    module _ (index : Index) (ei : index ≡ indexOf ws) where
+      pub crossing-step : (axis at : ℕ) (r : State) → axis < 2 → Crossing s axis at r → (m : ℕ) → m ≡ toNat (word ws (2 + axis)) → (b : Band) → b ≡ bandOf w axis → (t : State)
+          → Along (index .n) (index .lower) (blocksOf ws index b w m at) (2 * m) r t → length (t .1) ≡ length (r .1) → Crossing s (axis + 1) (at + 8 * m) t
+      crossing-step zero at r h x m em b eb t a l = record {
+        rest = x .rest ∙ after-append n (word ws 1) acrossBlocks uprightBlocks r
+            ∙ ap (does uprightBlocks) (sym (a .came ∙ (λ j. after (ei j .n) (ei j .lower) (blocksOf ws (ei j) (eb j) w (em j) (x .place j)) r)));
+        place = omega (arith, x .place, em);
+        visits = omega (arith, x .visits, a .visits, em);
+        long = l ∙ x .long;
+      }
+      crossing-step (suc zero) at r h x m em b eb t a l = record {
+        rest = x .rest ∙ sym (a .came ∙ (λ j. after (ei j .n) (ei j .lower) (blocksOf ws (ei j) (eb j) w (em j) (x .place j)) r)) ∙ sym (after-end n (word ws 1) t);
+        place = omega (arith, x .place, em);
+        visits = omega (arith, x .visits, a .visits, em);
+        long = l ∙ x .long;
+      }
+      crossing-step (suc (suc k)) at r h x m em b eb t a l = absurd (omega arith)
+
   module _ (cells : List ℤ) where
     pub none : n ≡ 0 → Given n (word ws 1) cells (walkOf ws w) (tally 0 0 0) cells
     unfolding walkOf walk
@@ -115,27 +188,17 @@ module _ (ws : List ℤ) (w : Window) where
         given-after n (word ws 1) cells (walk ws w) (start cells)
         (sym (ap (λ (b : Bool). does (when (not b) groups) (start cells)) (eq-eqb n 0 e) ∙ after-end n (word ws 1) (start cells)))
 
-    module _ (index : Index) (ei : index ≡ indexOf ws) (some : 0 < n) (one two three : State) (low : LowEnds cells one) (b c : Band) (eb : b ≡ acrossOf w) (ec : c ≡ uprightOf w)
-        (at m k : ℕ) (ea : at ≡ blocksAt n) (em : m ≡ mh) (ek : k ≡ mv)
-        (across : Along (index .n) (index .lower) (blocksOf ws index b w m at) (2 * m) one two)
-        (upright : Along (index .n) (index .lower) (blocksOf ws index c w k (at + 8 * m)) (2 * k) two three) where
-      second : two ≡ does acrossBlocks one
-      second = across .came ∙ (λ j. after (ei j .n) (ei j .lower) (blocksOf ws (ei j) (eb j) w (em j) (ea j)) one)
-
-      third : three ≡ does uprightBlocks two
-      third = upright .came ∙ (λ j. after (ei j .n) (ei j .lower) (blocksOf ws (ei j) (ec j) w (ek j) (ea j + 8 * em j)) two)
-
-      whole : three ≡ does (walk ws w) (start cells)
+    module _ (some : 0 < n) (one two : State) (low : LowEnds cells one) (crossed : Crossed one two) where
+      whole : two ≡ does (walk ws w) (start cells)
       unfolding walk
       whole = sym
           (ap (λ (b : Bool). does (when (not b) groups) (start cells)) (ne-eqb n 0 (λ e. omega arith))
           ∙ low .rest (acrossBlocks ++ uprightBlocks)
-          ∙ after-append n (word ws 1) acrossBlocks uprightBlocks one
-          ∙ sym (third ∙ ap (does uprightBlocks) second))
+          ∙ sym (crossed .came))
 
-      pub given : Given n (word ws 1) cells (walkOf ws w) (three .0) (three .1)
+      pub given : Given n (word ws 1) cells (walkOf ws w) (two .0) (two .1)
       unfolding walkOf
-      given = given-after n (word ws 1) cells (walk ws w) three whole
+      given = given-after n (word ws 1) cells (walk ws w) two whole
 
-      pub few : Sound ws → three .0 .visits ≤ 6 * n
-      few s = omega (arith, low .visits, across .visits, upright .visits, s .counts)
+      pub few : two .0 .visits ≤ 6 * n
+      few = omega (arith, low .visits, crossed .visits)

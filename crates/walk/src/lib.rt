@@ -10,7 +10,7 @@ ghost use Rattle.paper.specs.Orders.{badIndex};
 ghost use Rattle.paper.specs.Walk.{word, sizeIn, walkOf};
 ghost use Rattle.tally.specs.Fold.{Given};
 ghost use Rattle.walk.specs.Header.{badHeader, indexOf, Sound};
-ghost use Rattle.walk.specs.Whole.{LowEnds, acrossOf, uprightOf};
+ghost use Rattle.walk.specs.Whole.{LowEnds, Crossed, acrossOf, uprightOf, bandOf};
 use blocks::blocks;
 use nodes::nodes;
 use paper::Window;
@@ -127,6 +127,53 @@ fn upright(window: Window) -> Band
     }
 }
 
+// What is looked for along an axis: 0 the horizontals, 1 the verticals.
+fn band_of(window: Window, axis: usize) -> Band
+    ensures { λ r. ⌜ r ≡ bandOf window axis ⌝ }
+{
+    if axis == 0 {
+        return across(window);
+    }
+    upright(window)
+}
+
+// The groups of the horizontals and the verticals, in a loop: blocks are walked from one place, so that their code is compiled into it, for each axis apart.
+fn crossings(
+    words: &[i32],
+    numbers: &mut [i32],
+    stack: &mut [usize],
+    index: Index,
+    window: Window,
+    tally0: Tally,
+) -> Tally
+    requires { ⌜ Sound (now words) ⌝ }
+    requires { ⌜ (index ≡ indexOf (now words)) × (0 < sizeIn (now words)) ⌝ }
+    requires { ⌜ (tally0 .visits ≤ 4 * sizeIn (now words)) × (40 ≤ length (now stack)) ⌝ }
+    ensures { λ r. ⌜ Crossed (now (words .entry)) window (tally0, now (numbers .entry)) (r, now (numbers .exit)) ⌝ }
+{
+    let n = index.n;
+    let mut tally = tally0;
+    let mut at = levels_at(n) + 2 * n * (table::digits(n - 1) + 1);
+    let mut axis: usize = 0;
+    while axis < 2 {
+        let m = whole_at(words, 2 + axis, 0);
+        let next = blocks(
+            words,
+            numbers,
+            stack,
+            index,
+            band_of(window, axis),
+            tally,
+            at,
+            m,
+        );
+        tally = next;
+        at = at + 8 * m;
+        axis = axis + 1;
+    }
+    tally
+}
+
 // The walk: the low ends, the horizontals, the verticals.
 pub fn walk(words: &[i32], window: Window, numbers: &mut [i32]) -> Tally
     requires { ⌜ badIndex (now words) .given ≡ false ⌝ }
@@ -144,26 +191,5 @@ pub fn walk(words: &[i32], window: Window, numbers: &mut [i32]) -> Tally
     }
     let mut stack = [0usize; 72];
     let first = low_ends(words, numbers, &mut stack, window);
-    let at = levels_at(n) + 2 * n * (table::digits(n - 1) + 1);
-    let m = whole_at(words, 2, 0);
-    let second = blocks(
-        words,
-        numbers,
-        &mut stack,
-        index,
-        across(window),
-        first,
-        at,
-        m,
-    );
-    blocks(
-        words,
-        numbers,
-        &mut stack,
-        index,
-        upright(window),
-        second,
-        at + 8 * m,
-        whole_at(words, 3, 0),
-    )
+    crossings(words, numbers, &mut stack, index, window, first)
 }
