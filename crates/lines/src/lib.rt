@@ -7,7 +7,7 @@ ghost use Prim.Native.Nat.{ℕ, _+_, _*_, _≤_, _<_};
 ghost use lib.IntN.{ℤ, pos};
 ghost use lib.ListN.{length, take, drop};
 ghost use Rattle.lists.specs.Parts.{put};
-ghost use Rattle.paper.specs.Answers.{farOff, slanted as Slanted};
+ghost use Rattle.paper.specs.Answers.{farOff};
 ghost use Rattle.paper.specs.Lines.{lineOf};
 ghost use Rattle.lines.specs.declared.State.the-variants.{Filling};
 ghost use Rattle.fields.specs.Forms.{shownLine};
@@ -99,14 +99,6 @@ fn put_segment(cells: &mut [i32], at: usize, s: Segment)
     cells[at + 3] = whole::narrow(s.y2);
 }
 
-fn slanted(s: Segment) -> bool
-    ensures { λ r. ⌜ r ≡ Slanted s ⌝ }
-{
-    let level = (s.y1 <= s.y2) & (s.y2 <= s.y1);
-    let upright = (s.x1 <= s.x2) & (s.x2 <= s.x1);
-    !level & !upright
-}
-
 // A segment after those of the table.
 fn added(t: Table, s: Segment, cells: &mut [i32], at: usize) -> Outcome
     requires { ⌜ (length (now cells) ≡ 1024) × Fits t (now cells) ⌝ }
@@ -119,7 +111,7 @@ fn added(t: Table, s: Segment, cells: &mut [i32], at: usize) -> Outcome
     if table::far_off(s) {
         return Outcome::Fault(5);
     }
-    if slanted(s) {
+    if table::slanted(s) {
         return Outcome::Fault(6);
     }
     put_segment(cells, 4 * n, s);

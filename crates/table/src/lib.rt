@@ -239,7 +239,7 @@ pub fn far_off(segment: Segment) -> bool
     !(x1 & y1 & x2 & y2)
 }
 
-fn slanted(segment: Segment) -> bool
+pub fn slanted(segment: Segment) -> bool
     ensures { λ r. ⌜ r ≡ Slanted segment ⌝ }
 {
     let level = (segment.y1 <= segment.y2) & (segment.y2 <= segment.y1);
