@@ -45,12 +45,12 @@ add-put-digits c = search needs
 put-digits-requires : tie.Need-put-digits-requires
 put-digits-requires c κs =
     let s = c .before .before .before .before .before in
-    omega (arith, s .pre, ap length (negative (c .before)), length-set (s .args .out .now) (s .args .at) 45)
+    simp length-set (omega (arith, s .pre, ap length (negative (c .before))))
 
 same-length : tie.Need-same-length
 same-length c =
     let s = c .before .before .before .before .before .before .before .before in
-    c .before .before .put-digits .kept .0 ∙ length-set (s .args .out .now) (s .args .at) 45
+    c .before .before .put-digits .kept .0 ∙ simp length-set
 
 returns : tie.Need-returns
 returns c =
