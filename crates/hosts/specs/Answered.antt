@@ -18,20 +18,13 @@ use Rattle.paper.specs.Answers.{answer, answerAt, badExtent, badStrides, badCel
 use Rattle.paper.specs.Orders.{cellOrder}
 use Rattle.paper.specs.Words.{W}
 use Rattle.paper.specs.Corners.{weighed}
-use Rattle.paper.specs.Results.{Result}
 use Rattle.paper.specs.Hosts.{refusedToC, addressing, hostCell, hostWords, hostMeet, HostMeet}
 use Rattle.paper.specs.declared.Descriptor.{Descriptor}
 use Rattle.paper.specs.declared.Segment.{Segment}
 use Rattle.paper.specs.declared.Window.{Window}
-use Rattle.paper.specs.declared.Reply.{Reply}
-use Rattle.hosts.specs.declared.HostReply.{HostReply}
 use Rattle.promise.specs.Calls.{number-at-cell}
 use Rattle.table.specs.Cells.{Held}
 use Rattle.meeting.specs.Determined.{tested, decided, tested-is}
-
--- the reply that a host gets, as `paper` has it
-abbrev pub replyOf : HostReply → Reply
-replyOf r = record { number = r .number; count = r .count; visits = r .visits; position = r .position }
 
 abbrev pub descriptorOf : (kind base lower n segment coordinate : ℤ) → Descriptor
 descriptorOf kind base lower n segment coordinate = record { kind = kind; base = base; lower = lower; extent = n; «segment_stride» = segment; «coordinate_stride» = coordinate }
@@ -41,10 +34,6 @@ windowOf a b c d = record { a = a; b = b; c = c; d = d }
 
 abbrev through : ℤ → ℤ
 through z = toZ w64 (ofZ w64 z)
-
--- a fact of what a call returned and left in the cells, for the arguments that were made for it, is one of what the host gets, for what it gave
-pub for-host : {r : HostReply} {s : Reply} {cells : List ℤ} {A : Type 0} {x y : A} (P : A → Result → Type 0) → replyOf r ≡ s → x ≡ y → P x (s, cells) → P y (replyOf r, cells)
-for-host P same e h = rw (same, sym e) h
 
 -- numbers that fit 64 bits are what they were after they went through them
 module _ {k b l n s c : ℤ} (fk : SFits w64 k) (fb : SFits w64 b) (fl : SFits w64 l) (fn : SFits w64 n) (fs : SFits w64 s) (fc : SFits w64 c) where

@@ -4,20 +4,11 @@ ghost use mathlib.Core.Path.{_≡_};
 ghost use Rattle.paper.specs.Answers.{badPlace};
 ghost use Rattle.paper.specs.Hosts.{hostCell, hostWords, HostMeet};
 ghost use Rattle.paper.specs.Results.{Scanned, built, queried};
-ghost use Rattle.hosts.specs.Answered.{cellAnswer, replyOf};
+ghost use Rattle.hosts.specs.Answered.{cellAnswer};
 use paper::Descriptor;
 use paper::Reply;
 use paper::Segment;
 use paper::Window;
-
-// What a call on lent buffers returns to C: the answer number, and the count, visits and position that go with it.
-#[repr(C)]
-pub struct HostReply {
-    pub number: i64,
-    pub count: i64,
-    pub visits: i64,
-    pub position: i64,
-}
 
 // ---- the cell of a position and coordinate: 3, 4, 12, 11
 
@@ -153,17 +144,6 @@ fn described(
     }
 }
 
-fn to_host(reply: Reply) -> HostReply
-    ensures { λ r. ⌜ replyOf r ≡ reply ⌝ }
-{
-    HostReply {
-        number: reply.number,
-        count: reply.count,
-        visits: reply.visits,
-        position: reply.position,
-    }
-}
-
 #[no_mangle]
 pub extern "C" fn kalinosz_scan(
     table: &[i32],
@@ -178,14 +158,14 @@ pub extern "C" fn kalinosz_scan(
     c: i64,
     d: i64,
     numbers: &mut [i32],
-) -> HostReply
+) -> Reply
     ensures { λ r. ⌜ Scanned (now (table .entry))
         (record { kind = kind; base = base; lower = lower; extent = n; «segment_stride» = «segment_stride»; «coordinate_stride» = «coordinate_stride» })
-        (record { a = a; b = b; c = c; d = d }) (now (numbers .entry)) (replyOf r, now (numbers .exit)) ⌝ }
+        (record { a = a; b = b; c = c; d = d }) (now (numbers .entry)) (r, now (numbers .exit)) ⌝ }
 {
     let descriptor = described(kind, base, lower, n, segment_stride, coordinate_stride);
     let window = window_of(a, b, c, d);
-    to_host(marks::scan(table, descriptor, window, numbers))
+    marks::scan(table, descriptor, window, numbers)
 }
 
 #[no_mangle]
@@ -198,16 +178,16 @@ pub extern "C" fn kalinosz_build(
     segment_stride: i64,
     coordinate_stride: i64,
     index: &mut [i32],
-) -> HostReply
-    ensures { λ r. ⌜ (replyOf r, now (index .exit)) ≡ built (now (table .entry))
+) -> Reply
+    ensures { λ r. ⌜ (r, now (index .exit)) ≡ built (now (table .entry))
         (record { kind = kind; base = base; lower = lower; extent = n; «segment_stride» = «segment_stride»; «coordinate_stride» = «coordinate_stride» })
         (now (index .entry)) ⌝ }
 {
-    to_host(marks::build(
+    marks::build(
         table,
         described(kind, base, lower, n, segment_stride, coordinate_stride),
         index,
-    ))
+    )
 }
 
 #[no_mangle]
@@ -218,8 +198,8 @@ pub extern "C" fn kalinosz_query(
     c: i64,
     d: i64,
     numbers: &mut [i32],
-) -> HostReply
-    ensures { λ r. ⌜ (replyOf r, now (numbers .exit)) ≡ queried (now (index .entry)) (record { a = a; b = b; c = c; d = d }) (now (numbers .entry)) ⌝ }
+) -> Reply
+    ensures { λ r. ⌜ (r, now (numbers .exit)) ≡ queried (now (index .entry)) (record { a = a; b = b; c = c; d = d }) (now (numbers .entry)) ⌝ }
 {
-    to_host(marks::query(index, window_of(a, b, c, d), numbers))
+    marks::query(index, window_of(a, b, c, d), numbers)
 }

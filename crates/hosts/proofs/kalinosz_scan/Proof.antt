@@ -1,9 +1,6 @@
 -- `hosts::kalinosz_scan` meets its contract. Assumes nothing.
-use mathlib.Core.Path.{_≡_, ap₂, _∙_}
-use Rattle.paper.specs.Results.{Scanned}
-use Rattle.paper.specs.declared.Descriptor.{Descriptor}
-use Rattle.paper.specs.declared.Window.{Window}
-use Rattle.hosts.specs.Answered.{for-host, descriptor-given, window-given}
+use mathlib.Core.Path.{_∙_}
+use Rattle.hosts.specs.Answered.{descriptor-given, window-given}
 use borrow.Author.Needs.{needs}
 use Rattle.hosts.proofs.kalinosz_scan.Statement.{statement}
 use Rattle.hosts.proofs.kalinosz_scan.Tie as tie
@@ -17,19 +14,16 @@ window-of-requires c κs = search needs
 scan-requires : tie.Need-scan-requires
 scan-requires c κs = search needs
 
-to-host-requires : tie.Need-to-host-requires
-to-host-requires c κs = search needs
-
 same-length : tie.Need-same-length
 same-length c = search needs
 
 returns : tie.Need-returns
 returns c =
-    let a = c .before .before .before .before .before .before .args in
-    let f = c .before .before .before .before .before .before .fits in
-    let descriptor = c .before .before .before .before .before .described .ensures ∙ descriptor-given (f .kind) (f .base) (f .lower) (f .n) (f .segment-stride) (f .coordinate-stride) in
-    let window = c .before .before .before .before .window-of .ensures ∙ window-given (f .a) (f .b) (f .c) (f .d) in
-    for-host (λ (p : Descriptor × Window) r. Scanned (a .table .now) (p .0) (p .1) (a .numbers .now) r) (c .to-host .ensures) (ap₂ (λ d w. (d, w)) descriptor window) (c .before .before .scan .ensures .0)
+    let a = c .before .before .before .before .before .args in
+    let f = c .before .before .before .before .before .fits in
+    let descriptor = c .before .before .before .before .described .ensures ∙ descriptor-given (f .kind) (f .base) (f .lower) (f .n) (f .segment-stride) (f .coordinate-stride) in
+    let window = c .before .before .before .window-of .ensures ∙ window-given (f .a) (f .b) (f .c) (f .d) in
+    rw (descriptor, window) at (c .before .scan .ensures .0)
 
 pub kalinosz-scan-spec : {M : Type 1} → statement M
-kalinosz-scan-spec = tie.close (tie.spec described-requires window-of-requires scan-requires to-host-requires same-length returns)
+kalinosz-scan-spec = tie.close (tie.spec described-requires window-of-requires scan-requires same-length returns)
