@@ -1,6 +1,6 @@
 -- One queue: what it does itself, before its left and its right.
 use mathlib.Core.Path.{_≡_, refl, sym, ap, ap₂, _∙_}
-use mathlib.Core.Bool.{Bool, true, false, not, _&&_, cond}
+use mathlib.Core.Bool.{Bool, Bool·beq, true, false, not, _&&_, cond}
 use mathlib.Core.List.{List, [], _∷_, _++_}
 use Prim.Native.Nat.{ℕ, zero, suc, _+_, _-_, _*_, _/_, _≤_, _<_}
 use native.Mathlib.Omega.{arith}
@@ -25,6 +25,14 @@ axisOf (suc a) = vertical
 abbrev pub endOf : Bool → End
 endOf false = low
 endOf true = high
+
+same-true : (r : Bool) → Bool·beq r true ≡ r
+same-true true = refl
+same-true false = refl
+
+same-false : (r : Bool) → Bool·beq r false ≡ not r
+same-false true = refl
+same-false false = refl
 
 module _ (ws : List ℤ) (p a : ℕ) (h : a < 2) where
   pub near-word : word ws (recordsAt + recordWords * p + a) ≡ axisOf a .near (recordAt ws p)
@@ -51,11 +59,16 @@ module _ (ws : List ℤ) (p a : ℕ) (h : a < 2) where
       go (suc zero) h = refl
       go (suc (suc a)) h = absurd (omega arith)
 
-  pub near-holds : (e : ℤ) (r : Bool) → r ≡ leZ e (word ws (recordsAt + recordWords * p + a)) → not r ≡ condition (axisOf a) e low (recordAt ws p)
+  near-holds : (e : ℤ) (r : Bool) → r ≡ leZ e (word ws (recordsAt + recordWords * p + a)) → not r ≡ condition (axisOf a) e low (recordAt ws p)
   near-holds e r q = ap not q ∙ sym (lt-not _ e) ∙ ap (λ (z : ℤ). ltZ z e) near-word
 
-  pub far-holds : (e : ℤ) (r : Bool) → r ≡ leZ e (word ws (recordsAt + recordWords * p + (a + 2))) → r ≡ condition (axisOf a) e high (recordAt ws p)
+  far-holds : (e : ℤ) (r : Bool) → r ≡ leZ e (word ws (recordsAt + recordWords * p + (a + 2))) → r ≡ condition (axisOf a) e high (recordAt ws p)
   far-holds e r q = q ∙ ap (leZ e) far-word
+
+  -- the key reaches the edge or not, as the queue is high or low
+  pub key-holds : (e : ℤ) (h r : Bool) → r ≡ leZ e (word ws (recordsAt + recordWords * p + cond h (a + 2) a)) → Bool·beq r h ≡ condition (axisOf a) e (endOf h) (recordAt ws p)
+  key-holds e true r q = same-true r ∙ far-holds e r q
+  key-holds e false r q = same-false r ∙ near-holds e r q
 
   pub level-within : (lo hi : ℤ) (r t : Bool) → r ≡ leZ lo (word ws (recordsAt + recordWords * p + (1 - a))) → t ≡ leZ (word ws (recordsAt + recordWords * p + (1 - a))) hi
       → (r && t) ≡ inBand (axisOf a) lo hi (recordAt ws p)

@@ -29,16 +29,24 @@ pub struct Band {
     pub high: i64,
 }
 
+// The coordinate that a queue is by: near in a low queue, far in a high one.
+fn key_of(axis: usize, high: bool) -> usize
+    requires { ⌜ axis < 2 ⌝ }
+    ensures { λ r. ⌜ r ≡ cond high (axis + 2) axis ⌝ }
+    ensures within { λ r. ⌜ r < 4 ⌝ }
+{
+    if high { axis + 2 } else { axis }
+}
+
 // Whether a queue's condition holds of a position: near < edge in a low queue, far ≥ edge in a high one.
+// Its key reaches the edge or not, as the queue is high or low: one test, where a branch on each would be foreseen less well.
 fn holds(words: &[i32], band: Band, high: bool, p: usize) -> bool
     requires { ⌜ band .axis < 2 ⌝ }
     requires { ⌜ (p < 65536) × (8 + 4 * p ≤ length (now words)) ⌝ }
     ensures { λ r. ⌜ r ≡ condition (axisOf (band .axis)) (band .edge) (endOf high) (recordAt (now (words .entry)) p) ⌝ }
 {
-    if high {
-        return reaches(words, coordinate_at(p, band.axis + 2), band.edge);
-    }
-    !reaches(words, coordinate_at(p, band.axis), band.edge)
+    let reached = reaches(words, coordinate_at(p, key_of(band.axis, high)), band.edge);
+    reached == high
 }
 
 // Whether a position's level is in the band.
