@@ -3,22 +3,31 @@
 use mathlib.Core.Path.{_≡_, refl, sym, ap, ap₂, _∙_}
 use mathlib.Core.Bool.{Bool, true, _&&_}
 use mathlib.Core.List.{List, [], _∷_, _++_}
-use Prim.Native.Nat.{ℕ, zero, suc, _+_, _-_, _*_, _/_, _≤_, _<_}
+use Prim.Native.Nat.{ℕ, zero, suc, _-_, _*_, _/_, _≤_, _<_}
 use native.Mathlib.Omega.{arith}
-use lib.Dec.{ltb}
 use lib.IntN.{ℤ, pos}
-use lib.ListN.{length, getD, replicate, length-append, length-replicate}
-use Rattle.lists.specs.Plain.{count, filter, by, sort}
-use Rattle.lists.specs.Counting.{count-length, filter-count, filter-length}
+use lib.ListN.{length, set, getD, replicate, length-append, length-replicate}
+use Rattle.lists.specs.Parts.{put}
+use Rattle.lists.specs.Plain.{count, filter, sort}
+use Rattle.lists.specs.Counting.{count-length, filter-count}
 use Rattle.lists.specs.Sorting.{sort-length, sort-same}
 use Rattle.build_queue.specs.Queues.{within-any, queue-length, queue-same}
 use Rattle.build_block.specs.Sides.{Tidy, byNear, near-linear, centreAt, sides, somebody}
 use Rattle.paper.specs.declared.Segment.{Segment}
-use Rattle.paper.specs.Words.{Axis, End, nearOf, farOf, stays, lefts, rights, queueWords, blockWordsTo, blockWords}
+use Rattle.paper.specs.Words.{Axis, End, nearOf, stays, lefts, rights, queueWords, blockWordsTo, blockWords}
 
 -- the first four words
 abbrev pub header : ℤ → (stay left right : ℕ) → List ℤ
 header centre stay left right = centre ∷ pos stay ∷ pos left ∷ pos right ∷ []
+
+-- the first four words written one by one
+pub four-words : (s : List ℤ) (x y z w : ℤ) → 4 ≤ length s → set (set (set (set s 0 x) 1 y) 2 z) 3 w ≡ put 0 (x ∷ y ∷ z ∷ w ∷ []) s
+unfolding put
+four-words [] x y z w h = absurd (omega arith)
+four-words (a ∷ []) x y z w h = absurd (omega arith)
+four-words (a ∷ b ∷ []) x y z w h = absurd (omega arith)
+four-words (a ∷ b ∷ c ∷ []) x y z w h = absurd (omega arith)
+four-words (a ∷ b ∷ c ∷ d ∷ s) x y z w h = refl
 
 module _ (rs : List Segment) (axis : Axis) (tidy : Tidy rs axis) where
   -- the words of a block of a centre and three sides

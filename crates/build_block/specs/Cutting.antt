@@ -1,8 +1,8 @@
 -- Where a run that stands by near passes the centre: up to the cut near is no farther than the centre, from the cut on it is.
 -- Use: `Cut` is what the search finds; it starts at the middle (`middle-low`) and stops at the first that is beyond (`beyond`). For every axis. Assumes nothing.
-use mathlib.Core.Path.{_≡_, refl, sym, ap, subst, _∙_}
-use mathlib.Core.Bool.{Bool, true, false, not}
-use mathlib.Core.List.{List, [], _∷_, _++_}
+use mathlib.Core.Path.{_≡_, refl, sym, subst}
+use mathlib.Core.Bool.{true, false, not}
+use mathlib.Core.List.{List, [], _∷_}
 use Prim.Native.Nat.{ℕ, zero, suc, _+_, _≤_, _<_}
 use native.Mathlib.Numerals.{add-one}
 use native.Mathlib.Omega.{arith}

@@ -1,14 +1,13 @@
 -- A run that stands by near, divided: those that stay at the front, those that go left and right at the fronts of their own blocks' words.
 -- Use: `Divided` is what is left behind, by the `Division` found; `divided` proves it from what the cut, the parting and the two moves leave. For every axis. Assumes nothing.
-use mathlib.Core.Path.{_≡_, refl, sym, ap, ap₂, subst, _∙_}
+use mathlib.Core.Path.{_≡_, sym, ap, subst, _∙_}
 use mathlib.Core.Bool.{Bool, not}
-use mathlib.Core.List.{List, [], _∷_, _++_, map}
-use Prim.Native.Nat.{ℕ, suc, _+_, _-_, _*_, _/_, _≤_, _<_}
+use mathlib.Core.List.{List, map}
+use Prim.Native.Nat.{ℕ, _+_, _-_, _*_, _/_, _≤_, _<_}
 use native.Mathlib.Omega.{arith}
 use lib.IntN.{ℤ, pos}
 use lib.Signed.{ltZ}
 use lib.ListN.{length, getD, take, drop, length-map}
-use lib.Seq.{take-take}
 use Rattle.lists.specs.Plain.{toNat, filter}
 use Rattle.lists.specs.Maps.{map-take, map-drop}
 use Rattle.lists.specs.Filters.{filter-map}

@@ -1,27 +1,25 @@
 -- A block's words from what stands in the parts that were lent: prepared, both queues built, both child blocks built.
 -- Use: `prepared` joins a division and its spreading; `queued` is what the queues leave; `left-run`, `right-run` and `built` are for the child blocks. For every axis. Assumes nothing.
-use mathlib.Core.Path.{_≡_, refl, sym, ap, ap₂, subst, _∙_}
-use mathlib.Core.Bool.{Bool, false}
-use mathlib.Core.List.{List, [], _∷_, _++_, map}
+use mathlib.Core.Path.{_≡_, sym, ap, ap₂, _∙_}
+use mathlib.Core.List.{List, _++_, map}
 use Prim.Native.Nat.{ℕ, _+_, _-_, _*_, _≤_, _<_}
 use native.Mathlib.Omega.{arith}
 use lib.IntN.{ℤ, pos}
 use lib.ListN.{length, take, drop, replicate, length-map}
-use lib.Seq.{take-take}
 use borrow.Rule.Slice.PartMut.{putMid}
 use Rattle.lists.specs.Plain.{toNat, sort}
 use Rattle.lists.specs.Every.{Sorted, sorted-filter}
-use Rattle.lists.specs.Sorting.{sort-count, sort-length, sort-map, sort-sorted}
+use Rattle.lists.specs.Sorting.{sort-count, sort-map, sort-sorted}
 use Rattle.lists.specs.Parts.{win, put, length-win, length-put, win-add, win-all, win-put-at, win-put-left, win-put-right, lent}
 use Rattle.paper.specs.declared.Segment.{Segment}
-use Rattle.paper.specs.Words.{Axis, End, levelOf, stays, lefts, rights, queueWords, blockWords}
+use Rattle.paper.specs.Words.{Axis, End, stays, lefts, rights, queueWords, blockWords}
 use Rattle.records.specs.Records.{recordsOf, keyOrder}
 use Rattle.records.specs.KeyOrders.{one-key-carried}
 use Rattle.build_queue.specs.Ends.{axisOf}
 use Rattle.build_queue.specs.declared.Ends.{Ends}
-use Rattle.build_queue.specs.Runs.{named, Stands}
+use Rattle.build_queue.specs.Runs.{named, Stands, back-named, stands, part-front}
 use Rattle.build_queue.specs.Queues.{lower, lower-linear, queue-length, queue-same}
-use Rattle.build_queue.specs.Parting.{By, back-named}
+use Rattle.build_queue.specs.Parting.{By}
 use Rattle.build_block.specs.Sides.{Tidy, Nearer, centreAt}
 use Rattle.build_block.specs.Blocks.{header, block-length, block-cons}
 use Rattle.build_block.specs.Dividing.{Divided}
@@ -38,18 +36,6 @@ by-level table ends qs =
     (sort-map pos (lower (recordsOf (ends .d) table) (axisOf ends)) (keyOrder table (record { key = ends .level; level = ends .level; d = ends .d }))
     (one-key-carried table (ends .d) (ends .level))
     qs)
-
--- the words of positions that stand in an order
-pub stands : (up : ℕ → ℕ → Type 0) (words : List ℤ) (qs : List ℕ) → words ≡ map pos qs → Sorted up qs → Stands up words
-stands up words qs e o = record {
-  plain = ap (λ k. map pos (named k)) e ∙ ap (map pos) (back-named qs) ∙ sym e;
-  order = subst (Sorted up) (sym (ap named e ∙ back-named qs)) o;
-}
-
--- the front of a part that was lent
-front-of : (i k n : ℕ) (xs : List ℤ) → k ≤ n → win 0 k (take n (drop i xs)) ≡ win i k xs
-unfolding win
-front-of i k n xs h = take-take k n (drop i xs) h
 
 module _ (rs : List Segment) (axis : Axis) where
   abbrev centred : (ℤ → List ℕ → List ℕ) → List ℕ → List ℕ
@@ -91,13 +77,13 @@ module _ (rs : List Segment) (axis : Axis) where
   unfolding win
   queues-built a xs e₁ e₂ room is₁ is₂ =
       let size : (i : ℕ) → i + a ≤ length xs → length (named (win i a xs)) ≡ a = λ i h. length-map (win i a xs) toNat ∙ length-win i a xs h in
-      let f₁ : e₁ ≡ queueWords rs axis End.low (named (win 4 a xs)) = is₁ ∙ ap (λ l. queueWords rs axis End.low (named l)) (front-of 4 a (4 + 2 * a - 4) xs (omega arith)) in
+      let f₁ : e₁ ≡ queueWords rs axis End.low (named (win 4 a xs)) = is₁ ∙ ap (λ l. queueWords rs axis End.low (named l)) (part-front 4 a (4 + 2 * a - 4) xs (omega arith)) in
       let l₁ : length e₁ ≡ 2 * a = ap length f₁ ∙ queue-length rs axis End.low (named (win 4 a xs)) ∙ ap (λ i. 2 * i) (size 4 (omega arith)) in
       let b₁ : putMid 4 (4 + 2 * a - 4) xs e₁ ≡ put 4 e₁ xs = lent 4 (4 + 2 * a - 4) xs e₁ (omega arith) in
       let w : win (4 + 2 * a) a (putMid 4 (4 + 2 * a - 4) xs e₁) ≡ win (4 + 2 * a) a xs =
       ap (win (4 + 2 * a) a) b₁ ∙ win-put-right (4 + 2 * a) a 4 e₁ xs (omega arith) (omega arith) in
       let f₂ : e₂ ≡ queueWords rs axis End.high (named (win (4 + 2 * a) a xs)) =
-      is₂ ∙ ap (λ l. queueWords rs axis End.high (named l)) (front-of (4 + 2 * a) a (4 + 4 * a - (4 + 2 * a)) _ (omega arith) ∙ w) in
+      is₂ ∙ ap (λ l. queueWords rs axis End.high (named l)) (part-front (4 + 2 * a) a (4 + 4 * a - (4 + 2 * a)) _ (omega arith) ∙ w) in
       let l₂ : length e₂ ≡ 2 * a = ap length f₂ ∙ queue-length rs axis End.high (named (win (4 + 2 * a) a xs)) ∙ ap (λ i. 2 * i) (size (4 + 2 * a) (omega arith)) in
       lent (4 + 2 * a) (4 + 4 * a - (4 + 2 * a)) _ e₂ (omega arith) ∙ ap (put (4 + 2 * a) e₂) b₁ ∙ ap₂ (λ u v. put (4 + 2 * a) u (put 4 v xs)) f₂ f₁
 
@@ -155,7 +141,7 @@ module _ (rs : List Segment) (axis : Axis) where
 
       left-front : win 0 (b - a) (take (8 * b - 8 * a) (drop (8 * a) y₁)) ≡ map pos (leaving ps)
       left-front =
-          front-of (8 * a) (b - a) (8 * b - 8 * a) y₁ (omega (arith, sizes)) ∙ after (8 * a) (b - a) (omega (arith, sizes)) ∙ P .lefts-in
+          part-front (8 * a) (b - a) (8 * b - 8 * a) y₁ (omega (arith, sizes)) ∙ after (8 * a) (b - a) (omega (arith, sizes)) ∙ P .lefts-in
 
       pub left-run : Stands (Nearer rs axis) (win 0 (b - a) (take (8 * b - 8 * a) (drop (8 * a) y₁)))
       left-run = stands (Nearer rs axis) _ (leaving ps) left-front (sorted-filter _ order)
@@ -178,7 +164,7 @@ module _ (rs : List Segment) (axis : Axis) where
 
         right-front : win 0 (m - b) (take (length y₂ - 8 * b) (drop (8 * b) y₂)) ≡ map pos (passing ps)
         right-front =
-            front-of (8 * b) (m - b) (length y₂ - 8 * b) y₂ (omega (arith, sizes, k₂))
+            part-front (8 * b) (m - b) (length y₂ - 8 * b) y₂ (omega (arith, sizes, k₂))
             ∙ ap (win (8 * b) (m - b)) is₂
             ∙ win-put-right (8 * b) (m - b) (8 * a) e₁ y₁ (omega (arith, m₁, sizes)) (omega (arith, m₁, sizes, k₁))
             ∙ after (8 * b) (m - b) (omega (arith, sizes))

@@ -2,13 +2,13 @@
 -- Use: `Going` holds while the pass goes on: what is still due, put at its two places, is the whole (`begun`, `goes`, `stays-here`, `done`). Assumes nothing.
 use mathlib.Core.Path.{_≡_, refl, sym, ap, ap₂, _∙_}
 use mathlib.Core.Bool.{Bool, true, false, not}
-use mathlib.Core.List.{List, [], _∷_, _++_}
-use Prim.Native.Nat.{ℕ, zero, suc, _+_, _-_, _≤_, _<_}
+use mathlib.Core.List.{List, [], _∷_}
+use Prim.Native.Nat.{ℕ, suc, _+_, _-_, _≤_, _<_}
 use native.Mathlib.Numerals.{add-one}
 use native.Mathlib.Omega.{arith}
 use lib.IntN.{ℤ, pos}
 use lib.ListN.{length, getD, set, length-set}
-use Rattle.lists.specs.Plain.{filter, count}
+use Rattle.lists.specs.Plain.{filter}
 use Rattle.lists.specs.Counting.{filter-length, count-parts}
 use Rattle.lists.specs.Filters.{filter-yes, filter-no}
 use Rattle.lists.specs.Parts.{win, put, length-win, length-put, win-cons, win-set, win-put-left, put-one, put-step, put-nil, put-swap}

@@ -4,22 +4,22 @@
 use mathlib.Core.Path.{_≡_, refl, sym, ap, subst, _∙_}
 use mathlib.Core.Bool.{Bool, true, false, not, _&&_}
 use mathlib.Core.List.{List, [], _∷_, _++_, map, append-nil}
-use Prim.Native.Nat.{ℕ, zero, suc, _+_, _-_, _*_, _/_, _≤_, _<_}
+use Prim.Native.Nat.{ℕ, _+_, _/_, _<_}
 use native.Mathlib.Omega.{arith}
 use lib.Dec.{T, ltb}
-use lib.IntN.{ℤ, pos}
+use lib.IntN.{ℤ}
 use lib.Signed.{leZ, ltZ}
-use lib.ListN.{length, getD, take, drop, length-map, take-append-drop}
+use lib.ListN.{length, getD, take, drop, take-append-drop}
 use Rattle.lists.specs.Plain.{within, count, filter, by, sort}
-use Rattle.lists.specs.Tests.{gate, gate-one, is-true, both, fail-left, yes-not}
-use Rattle.lists.specs.Orders.{Order, Linear, upTo, ltZ-not, ltZ-up, ltZ-linear, ℤ-order, le-self, ltb-linear, by-linear, by-key}
+use Rattle.lists.specs.Tests.{gate, gate-one, both, fail-left, yes-not}
+use Rattle.lists.specs.Orders.{Linear, upTo, ltZ-not, ltZ-up, ltZ-linear, ℤ-order, le-self, ltb-linear, by-linear, by-key}
 use Rattle.lists.specs.Every.{All, all-map, Sorted, sorted-map}
 use Rattle.lists.specs.Maps.{map-at, map-sorted}
 use Rattle.lists.specs.Choosing.{filter-join}
 use Rattle.lists.specs.Filters.{filter-all, filter-none, filter-same}
-use Rattle.lists.specs.Counting.{count-cons, count-map, filter-length}
+use Rattle.lists.specs.Counting.{count-map, filter-length}
 use Rattle.lists.specs.Sorting.{InOrder, sort-count, sort-length, sort-sorted, unique}
-use Rattle.build_queue.specs.Taking.{without, without-count}
+use Rattle.build_queue.specs.Taking.{without-count}
 use Rattle.paper.specs.declared.Segment.{Segment}
 use Rattle.paper.specs.Words.{Axis, nearOf, farOf, stays, lefts, rights}
 

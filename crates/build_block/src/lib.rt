@@ -2,7 +2,6 @@
 // One function for horizontals and verticals: `Ends` says which words of a record are near, far and level.
 ghost use mathlib.Core.Path.{_≡_};
 ghost use Prim.Native.Nat.{ℕ, _+_, _-_, _*_, _/_, _≤_, _<_};
-ghost use lib.IntN.{pos};
 ghost use lib.ListN.{length};
 ghost use lib.Signed.{ltZ};
 ghost use mathlib.Core.Bool.{not};

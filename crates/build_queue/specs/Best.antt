@@ -1,9 +1,9 @@
 -- The one that a queue takes, sought from the front of positions that stand by (level, position): there a strictly better key alone decides, since of
 -- equal keys the earlier place comes first.
 -- Use: `Best` is what the search finds; `Seen` holds while it goes on (`seen-first`, `seen-better`, `seen-kept`). For every axis and either end. Assumes nothing.
-use mathlib.Core.Path.{_≡_, refl, sym, ap, subst, _∙_}
-use mathlib.Core.Bool.{Bool, true, false, not, _&&_, _||_}
-use mathlib.Core.List.{List, [], _∷_, _++_}
+use mathlib.Core.Path.{_≡_, subst}
+use mathlib.Core.Bool.{Bool, true, false, not, _&&_}
+use mathlib.Core.List.{List, [], _∷_}
 use Prim.Native.Nat.{ℕ, zero, suc, _+_, _≤_, _<_}
 use native.Mathlib.Numerals.{add-one}
 use native.Mathlib.Omega.{arith}
@@ -13,7 +13,7 @@ use lib.Signed.{ltZ}
 use lib.ListN.{length, getD, take}
 use lib.Seq.{take-suc, take-all}
 use Rattle.lists.specs.Plain.{same}
-use Rattle.lists.specs.Tests.{holds, fails, yes-not}
+use Rattle.lists.specs.Tests.{yes-not}
 use Rattle.lists.specs.Orders.{upTo, le-self}
 use Rattle.lists.specs.Every.{All, all-map, all-append, all-getD, Sorted}
 use Rattle.lists.specs.Sorting.{InOrder}

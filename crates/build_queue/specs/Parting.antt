@@ -1,27 +1,26 @@
 -- How a queue's words come about: one word taken to the front and the others sent left and right (`Arranged`), with the split beside it (`Headed`), then the two
 -- queues built in the parts that are lent (`built`). `plain` words are those of positions.
 -- Use: `headed` from what the search, the moves and the split leave; `first-run`, `second-run` and `built` for the two parts. For every axis and either end. Assumes nothing.
-use mathlib.Core.Path.{_≡_, refl, sym, ap, ap₂, subst, _∙_}
-use mathlib.Core.Bool.{Bool}
-use mathlib.Core.List.{List, [], _∷_, _++_, map, map-append, map-map, map-id}
-use Prim.Native.Nat.{ℕ, suc, _+_, _-_, _*_, _/_, _≤_, _<_}
+use mathlib.Core.Path.{_≡_, sym, ap, ap₂, _∙_}
+use mathlib.Core.List.{List, [], _∷_, _++_, map, map-append}
+use Prim.Native.Nat.{ℕ, suc, _+_, _-_, _*_, _/_, _<_}
 use native.Mathlib.Omega.{arith}
 use lib.Dec.{T}
 use lib.IntN.{ℤ, pos}
-use lib.ListN.{length, getD, set, take, drop, length-map, length-set}
+use lib.ListN.{length, getD, set, take, drop, length-map}
 use lib.Seq.{getD-take, length-take-le}
 use borrow.Rule.Slice.PartMut.{putMid}
 use Rattle.lists.specs.Plain.{toNat, half, firstHalf, secondHalf, sort}
-use Rattle.lists.specs.Parts.{win, put, length-win, length-put, win-add, win-all, win-put-at, win-put-left, win-put-right, put-one, take-win, lent}
+use Rattle.lists.specs.Parts.{win, put, length-put, win-add, win-all, win-put-at, win-put-left, win-put-right, put-one, take-win, lent}
 use Rattle.lists.specs.Maps.{map-take, map-drop, map-at}
 use Rattle.lists.specs.Every.{Sorted, sorted-take, sorted-drop}
 use Rattle.lists.specs.Orders.{upTo}
 use Rattle.lists.specs.Halves.{first-length, second-length}
-use Rattle.lists.specs.Sorting.{InOrder, sort-sorted}
+use Rattle.lists.specs.Sorting.{sort-sorted}
 use Rattle.paper.specs.declared.Segment.{Segment}
 use Rattle.paper.specs.Words.{Axis, End, takenBefore, splitOf, queueWords}
-use Rattle.build_queue.specs.Runs.{named, Stands}
-use Rattle.build_queue.specs.Taking.{without, without-length, taken-first, others-stand}
+use Rattle.build_queue.specs.Runs.{named, Stands, back-named, stands}
+use Rattle.build_queue.specs.Taking.{without, taken-first, others-stand}
 use Rattle.build_queue.specs.Queues.{lower, lower-linear, taken-linear, firstOf, restOf, rest-length, queue-cons, queue-length}
 use Rattle.build_queue.specs.Best.{Best}
 
@@ -30,10 +29,6 @@ pub record Arranged (xs ys : List ℤ) (b left right : ℕ) : Type 0 where
   pub taken : getD ys 0 (pos 0) ≡ getD xs b (pos 0)
   pub lefts : win 2 left ys ≡ take left (without b (take (1 + left + right) xs))
   pub rights : win (2 + 2 * left) right ys ≡ drop left (without b (take (1 + left + right) xs))
-
--- positions as words, and back
-pub back-named : (ps : List ℕ) → named (map pos ps) ≡ ps
-back-named ps = map-map toNat pos ps ∙ map-id ps
 
 two : (ys : List ℤ) (m w : ℤ) → 1 < length ys → getD ys 0 (pos 0) ≡ m → win 0 2 (set ys 1 w) ≡ m ∷ w ∷ []
 unfolding win
@@ -135,13 +130,6 @@ module _ (rs : List Segment) (axis : Axis) (end : End) where
         let n : length (restOf rs axis end ps) ≡ s - 1 = rest-length rs axis end ps ∙ ap (λ k. k - 1) size in
         (omega (arith, n, first-length (restOf rs axis end ps)), omega (arith, n, second-length (restOf rs axis end ps)))
 
-    -- a run of the others stands as its queue asks
-    stands : (words : List ℤ) (qs : List ℕ) → words ≡ map pos qs → Sorted (By rs axis) qs → Stands (By rs axis) words
-    stands words qs e o = record {
-      plain = ap (λ k. map pos (named k)) e ∙ ap (map pos) (back-named qs) ∙ sym e;
-      order = subst (Sorted (By rs axis)) (sym (ap named e ∙ back-named qs)) o;
-    }
-
     rest-order : Sorted (By rs axis) (restOf rs axis end ps)
     rest-order = sort-sorted (lower rs axis) (lower-linear rs axis .order) (drop 1 (sort (takenBefore rs axis end) ps))
 
@@ -153,7 +141,7 @@ module _ (rs : List Segment) (axis : Axis) (end : End) where
         rw k (take-win 2 l l ys (omega arith) ∙ h)
 
     pub first-run : Stands (By rs axis) (take l (take (m - 2) (drop 2 ys)))
-    first-run = stands _ L first (sorted-take (half (length (restOf rs axis end ps))) rest-order)
+    first-run = stands (By rs axis) _ L first (sorted-take (half (length (restOf rs axis end ps))) rest-order)
 
     module _ (e₁ : List ℤ) (is₁ : e₁ ≡ queueWords rs axis end (named (take l (take (m - 2) (drop 2 ys))))) where
       left-words : e₁ ≡ queueWords rs axis end L
@@ -183,7 +171,7 @@ module _ (rs : List Segment) (axis : Axis) (end : End) where
           ∙ h)
 
       pub second-run : Stands (By rs axis) (take r (take (length y₁ - m) (drop m y₁)))
-      second-run = stands _ R second (sorted-drop (half (length (restOf rs axis end ps))) rest-order)
+      second-run = stands (By rs axis) _ R second (sorted-drop (half (length (restOf rs axis end ps))) rest-order)
 
       module _ (e₂ : List ℤ) (is₂ : e₂ ≡ queueWords rs axis end (named (take r (take (length y₁ - m) (drop m y₁))))) where
         right-words : e₂ ≡ queueWords rs axis end R

@@ -1,20 +1,20 @@
 -- Laws of `paper`'s words of a queue: `queue-cons` unfolds them without the bound on the depth, `queue-length` counts them, `queue-same` says that the
--- order of the positions does not matter, `queue-by` that only the queue's own key and the level do. For every axis and either end. Assumes nothing.
-use mathlib.Core.Path.{_≡_, refl, sym, ap, ap₂, _∙_}
+-- order of the positions does not matter. For every axis and either end. Assumes nothing.
+use mathlib.Core.Path.{_≡_, refl, sym, ap, _∙_}
 use mathlib.Core.Bool.{Bool, true}
-use mathlib.Core.List.{List, [], _∷_, _++_, map}
-use Prim.Native.Nat.{ℕ, zero, suc, _+_, _-_, _*_, _/_, _≤_, _<_}
+use mathlib.Core.List.{List, [], _∷_, _++_}
+use Prim.Native.Nat.{ℕ, zero, suc, _+_, _-_, _*_, _≤_, _<_}
 use native.Mathlib.Omega.{arith}
 use lib.Dec.{ltb}
-use lib.IntN.{ℤ, pos}
-use lib.ListN.{length, getD, take, drop, length-append, length-take, length-drop}
-use Rattle.lists.specs.Plain.{half, firstHalf, secondHalf, last, count, by, insert, sort}
+use lib.IntN.{pos}
+use lib.ListN.{length, getD, drop, length-append, length-drop}
+use Rattle.lists.specs.Plain.{firstHalf, secondHalf, last, count, by, insert, sort}
 use Rattle.lists.specs.Orders.{Linear, upTo, ltb-linear, by-linear, greatest-linear}
 use Rattle.lists.specs.Counting.{count-length}
 use Rattle.lists.specs.Halves.{first-length, second-length}
 use Rattle.lists.specs.Sorting.{sort-length, sort-same}
 use Rattle.paper.specs.declared.Segment.{Segment}
-use Rattle.paper.specs.Words.{Axis, End, nearOf, farOf, levelOf, takenBefore, taken, others, splitOf, queueWordsTo, queueWords}
+use Rattle.paper.specs.Words.{Axis, End, nearOf, farOf, levelOf, takenBefore, splitOf, queueWordsTo, queueWords}
 
 -- which default is given does not matter within a list
 pub within-any : {A : Type 0} (l : List A) (i : ℕ) (d e : A) → i < length l → getD l i d ≡ getD l i e

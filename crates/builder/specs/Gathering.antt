@@ -11,7 +11,7 @@ use lib.IntN.{ℤ, pos}
 use lib.ListN.{length, getD, set, length-set}
 use Rattle.lists.specs.Plain.{filter}
 use Rattle.lists.specs.Filters.{filter-yes, filter-no}
-use Rattle.lists.specs.Parts.{win, put, length-win, win-cons, win-set-after, put-step, put-nil}
+use Rattle.lists.specs.Parts.{win, put, win-cons, win-set-after, put-step, put-nil}
 
 module _ (wanted : ℤ → Bool) (s₀ : List ℤ) (from n to : ℕ) where
   -- those among the words

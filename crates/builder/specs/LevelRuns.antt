@@ -1,16 +1,16 @@
 -- The runs that the blocks are made of stand in the levels already: level 0 by (y, position), the last level by (x, y, position). Those of them that are horizontal, or
 -- vertical, stand by near, and hold each position of `paper`'s list once.
 -- Use: `level-zero`, `level-last` for the words; `across-stands`, `along-stands` for the orders; `across-words`, `along-words` for the blocks over them. Assumes nothing.
-use mathlib.Core.Path.{_≡_, refl, sym, ap, ap₂, _∙_}
-use mathlib.Core.Bool.{Bool, true, not, _&&_}
-use mathlib.Core.List.{List, [], _∷_, _++_, map}
-use Prim.Native.Nat.{ℕ, zero, suc, _+_, _-_, _*_, _^_, _≤_, _<_}
+use mathlib.Core.Path.{_≡_, sym, ap, _∙_}
+use mathlib.Core.Bool.{Bool, not, _&&_}
+use mathlib.Core.List.{List, _++_, map}
+use Prim.Native.Nat.{ℕ, zero, suc, _+_, _-_, _*_, _≤_}
 use native.Mathlib.Omega.{arith}
 use lib.Dec.{ltb}
 use lib.IntN.{ℤ, pos}
-use lib.ListN.{length, replicate, length-map, length-append, length-replicate}
+use lib.ListN.{length, replicate, length-map, length-replicate}
 use Rattle.lists.specs.Plain.{positions, filter, count, by, sort}
-use Rattle.lists.specs.Orders.{Linear, upTo, ltb-linear, by-linear, by-key}
+use Rattle.lists.specs.Orders.{ltb-linear, by-linear, by-key}
 use Rattle.lists.specs.Every.{Sorted, sorted-map, sorted-filter}
 use Rattle.lists.specs.Counting.{filter-count, filter-length, count-parts}
 use Rattle.lists.specs.Positions.{positions-length}

@@ -1,27 +1,24 @@
 -- The two blocks of an index, built behind its levels: the runs gathered from the levels, each at the front of its block's words, then the blocks in the parts that are lent.
 -- Use: `across-run`, `along-run` for what the block builder asks, `placed` for the whole. Assumes nothing.
-use mathlib.Core.Path.{_≡_, refl, sym, ap, ap₂, _∙_}
+use mathlib.Core.Path.{_≡_, sym, ap, ap₂, _∙_}
 use mathlib.Core.Bool.{Bool, not}
-use mathlib.Core.List.{List, [], _∷_, _++_, map}
-use Prim.Native.Nat.{ℕ, suc, _+_, _-_, _*_, _≤_, _<_}
+use mathlib.Core.List.{List, _++_, map}
+use Prim.Native.Nat.{ℕ, _+_, _-_, _*_, _≤_}
 use native.Mathlib.Omega.{arith}
 use lib.IntN.{ℤ, pos}
 use lib.ListN.{length, take, drop, length-map}
-use lib.Seq.{take-take}
 use borrow.Rule.Slice.PartMut.{putMid}
 use Rattle.lists.specs.Plain.{toNat, filter}
 use Rattle.lists.specs.Filters.{filter-map}
-use Rattle.lists.specs.Parts.{win, put, length-win, length-put, win-win, win-add, win-all, win-put-at, win-put-left, win-put-right, lent}
+use Rattle.lists.specs.Parts.{win, put, length-put, win-win, win-add, win-all, win-put-at, win-put-left, win-put-right, lent}
 use Rattle.paper.specs.Descriptor.{at}
 use Rattle.paper.specs.declared.Descriptor.{Descriptor}
 use Rattle.paper.specs.declared.Segment.{Segment}
 use Rattle.paper.specs.Words.{L, xOrder, slots, isHorizontal, horizontals, verticals, horizontal, vertical, levelsWords, blockWords}
 use Rattle.records.specs.Records.{recordsOf}
-use Rattle.build_queue.specs.Runs.{named, Stands}
-use Rattle.build_queue.specs.Parting.{back-named}
+use Rattle.build_queue.specs.Runs.{named, Stands, back-named, stands, part-length, part-front}
 use Rattle.build_block.specs.Sides.{Tidy, Nearer}
 use Rattle.build_block.specs.Blocks.{block-length}
-use Rattle.build_block.specs.Joining.{stands}
 use Rattle.builder.specs.LevelRuns as runs
 
 -- whether the record of the position that a word stands for is horizontal
@@ -35,14 +32,6 @@ isUpright d table z = not (isHorizontal (at (recordsOf d table) (toNat z)))
 abbrev pub blocksOf : Descriptor → List ℤ → List ℤ
 blocksOf d table =
     blockWords (recordsOf d table) horizontal (horizontals (recordsOf d table)) ++ blockWords (recordsOf d table) vertical (verticals (recordsOf d table))
-
-front-of : (i k n : ℕ) (xs : List ℤ) → k ≤ n → win 0 k (take n (drop i xs)) ≡ win i k xs
-unfolding win
-front-of i k n xs h = take-take k n (drop i xs) h
-
-part-length : (i k : ℕ) (xs : List ℤ) → i + k ≤ length xs → length (take k (drop i xs)) ≡ k
-unfolding win
-part-length i k xs h = length-win i k xs h
 
 module _ (d : Descriptor) (table : List ℤ) (level : Tidy (recordsOf d table) horizontal) (upright : Tidy (recordsOf d table) vertical)
     (n last : ℕ) (s₀ : List ℤ) (size : length (recordsOf d table) ≡ n) (last-is : last ≡ 2 * n * L (n - 1)) (long : length s₀ ≡ last + 2 * n + 8 * n)
@@ -126,7 +115,7 @@ module _ (d : Descriptor) (table : List ℤ) (level : Tidy (recordsOf d table) h
 
       across-front : win 0 h (take (middle - start) (drop start y₂)) ≡ map pos A
       across-front =
-          front-of start h (middle - start) y₂ (omega arith)
+          part-front start h (middle - start) y₂ (omega arith)
           ∙ ap (win start h) at₂
           ∙ win-put-left start h middle (map pos B) y₁ (omega arith) (omega (arith, h-most, long₁))
           ∙ ap (win start h) is₁
@@ -161,7 +150,7 @@ module _ (d : Descriptor) (table : List ℤ) (level : Tidy (recordsOf d table) h
 
         along-front : win 0 (n - h) (take (length y₃ - middle) (drop middle y₃)) ≡ map pos B
         along-front =
-            front-of middle (n - h) (length y₃ - middle) y₃ (omega (arith, long₃, h-most))
+            part-front middle (n - h) (length y₃ - middle) y₃ (omega (arith, long₃, h-most))
             ∙ ap (win middle (n - h)) is₃
             ∙ win-put-right middle (n - h) start e₁ y₂ (omega (arith, m₁)) (omega (arith, m₁, long₂, h-most))
             ∙ ap (win middle (n - h)) at₂

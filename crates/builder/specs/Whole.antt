@@ -1,16 +1,16 @@
 -- What the builder asks of its caller, and the whole index from its parts: records, levels, blocks, and the header over the first four words. Assumes nothing.
-use mathlib.Core.Path.{_≡_, refl, sym, ap, ap₂, _∙_}
-use mathlib.Core.Bool.{Bool, false, not}
-use mathlib.Core.List.{List, [], _∷_, _++_, map}
-use Prim.Native.Nat.{ℕ, suc, _+_, _-_, _*_, _≤_, _<_}
+use mathlib.Core.Path.{_≡_, sym, ap, ap₂, _∙_}
+use mathlib.Core.Bool.{false}
+use mathlib.Core.List.{List, _++_, map}
+use Prim.Native.Nat.{ℕ, _+_, _-_, _*_, _≤_}
 use native.Mathlib.Omega.{arith}
-use lib.IntN.{ℤ, pos}
-use lib.ListN.{length, take, drop, length-append, length-map}
+use lib.IntN.{ℤ}
+use lib.ListN.{length, take, drop, length-append}
 use lib.Seq.{take-take}
 use borrow.Rule.Slice.PartMut.{putMid}
 use Rattle.lists.specs.Plain.{joined}
-use Rattle.lists.specs.Parts.{win, put, length-put, win-put-at, win-put-left, put-over, put-swap, put-join, lent}
-use Rattle.paper.specs.Descriptor.{sizeOf, segmentsOf, firstNumber}
+use Rattle.lists.specs.Parts.{win, put, length-put, win-put-at, put-over, put-swap, put-join, lent}
+use Rattle.paper.specs.Descriptor.{sizeOf, segmentsOf}
 use Rattle.paper.specs.Answers.{badLower}
 use Rattle.paper.specs.declared.Descriptor.{Descriptor}
 use Rattle.paper.specs.declared.Segment.{Segment}

@@ -1,9 +1,9 @@
 -- `build_block::block` meets its contract: prepared, its queues, then the two blocks in the parts lent on. Assumes nothing.
 use borrow.Author.Needs.{needs}
 use native.Mathlib.Omega.{arith}
-use mathlib.Core.Path.{_≡_, refl, sym, ap, _∙_}
+use mathlib.Core.Path.{_≡_, _∙_}
 use mathlib.Core.List.{List, [], _∷_}
-use Prim.Native.Nat.{ℕ, _+_, _-_, _*_, _≤_, _<_}
+use Prim.Native.Nat.{ℕ, _-_, _*_, _≤_, _<_}
 use lib.IntN.{ℤ}
 use lib.ListN.{length, length-map, take, drop}
 use borrow.Rule.Slice.PartMut.{putMid}
@@ -13,8 +13,7 @@ use Rattle.paper.specs.declared.Segment.{Segment}
 use Rattle.paper.specs.Words.{Axis, blockWords, blockWordsTo}
 use Rattle.records.specs.Records.{recordsOf}
 use Rattle.build_queue.specs.Ends.{axisOf}
-use Rattle.build_queue.specs.Runs.{named, Stands}
-use Rattle.build_queue.specs.Parting.{By}
+use Rattle.build_queue.specs.Runs.{named, Stands, part-length}
 use Rattle.build_block.specs.Sides.{Tidy, Nearer}
 use Rattle.build_block.specs.Joining as join
 use borrow.Fn.Kinds.{In}
@@ -44,10 +43,6 @@ none : (rs : List Segment) (axis : Axis) (m : ℕ) (xs : List ℤ) → length xs
 unfolding win blockWordsTo
 none rs axis m [] h z = rw z
 none rs axis m (x ∷ xs) h z = absurd (omega arith)
-
-part-length : (a k : ℕ) (xs : List ℤ) → a + k ≤ length xs → length (take k (drop a xs)) ≡ k
-unfolding win
-part-length a k xs h = length-win a k xs h
 
 -- what is known after `prepare`
 module _ (t : ℕ) (c : block-lts.After-prepare (calls t) (block-at t) block.Post) where

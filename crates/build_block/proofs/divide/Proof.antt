@@ -1,12 +1,12 @@
 -- `build_block::divide` meets its contract. Assumes nothing.
 use borrow.Author.Needs.{needs}
-use mathlib.Core.Path.{_≡_, refl, sym, ap, subst, _∙_}
+use mathlib.Core.Path.{_≡_, refl, sym, ap, _∙_}
 use mathlib.Core.Bool.{Bool}
 use mathlib.Core.List.{List}
-use Prim.Native.Nat.{ℕ, _+_, _-_, _*_, _/_, _≤_, _<_}
+use Prim.Native.Nat.{ℕ, _+_, _*_, _/_, _≤_, _<_}
 use native.Mathlib.Omega.{arith}
 use lib.IntN.{ℤ, pos}
-use lib.ListN.{length, getD, take, length-map}
+use lib.ListN.{length, getD, length-map}
 use lib.Seq.{getD-take, length-take-le}
 use lib.Signed.{ltZ}
 use mir.Syntax.{w32}
@@ -20,7 +20,7 @@ use Rattle.paper.specs.Words.{Axis, nearOf, farOf}
 use Rattle.records.specs.Records.{recordsOf, wordAt}
 use Rattle.build_queue.specs.Ends.{axisOf}
 use Rattle.build_queue.specs.Runs.{named}
-use Rattle.build_block.specs.Cutting.{Low, Cut, middle-low}
+use Rattle.build_block.specs.Cutting.{Cut, middle-low}
 use Rattle.build_block.specs.Dividing as dividing
 use Rattle.build_block.proofs.divide.Statement.{statement}
 use Rattle.build_block.proofs.divide.Tie as tie

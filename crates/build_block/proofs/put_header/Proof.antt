@@ -1,25 +1,13 @@
 -- `build_block::put_header` meets its contract. Assumes nothing.
 use borrow.Author.Needs.{needs}
-use mathlib.Core.Path.{_≡_, refl}
-use mathlib.Core.List.{List, [], _∷_}
-use Prim.Native.Nat.{_≤_}
 use native.Mathlib.Omega.{arith}
-use lib.IntN.{ℤ}
-use lib.ListN.{length, set, length-set}
+use lib.ListN.{length-set}
 use mir.Syntax.{w32}
 use mir.ValLaws.{toZ-ofZ}
 use Rattle.whole.specs.Whole.{kept}
-use Rattle.lists.specs.Parts.{put}
+use Rattle.build_block.specs.Blocks.{four-words}
 use Rattle.build_block.proofs.put_header.Statement.{statement}
 use Rattle.build_block.proofs.put_header.Tie as tie
-
-four : (s : List ℤ) (x y z w : ℤ) → 4 ≤ length s → set (set (set (set s 0 x) 1 y) 2 z) 3 w ≡ put 0 (x ∷ y ∷ z ∷ w ∷ []) s
-unfolding put
-four [] x y z w h = absurd (omega arith)
-four (a ∷ []) x y z w h = absurd (omega arith)
-four (a ∷ b ∷ []) x y z w h = absurd (omega arith)
-four (a ∷ b ∷ c ∷ []) x y z w h = absurd (omega arith)
-four (a ∷ b ∷ c ∷ d ∷ s) x y z w h = refl
 
 slice-set-from-centre : tie.Need-slice-set-from-centre
 slice-set-from-centre c = search needs
@@ -61,7 +49,7 @@ returns c =
       kept w32 (w₃ .result) (w₃ .ok),
       w₃ .ensures,
     )
-    (four (a .part .now) _ _ _ _ (s .pre .0))
+    (four-words (a .part .now) _ _ _ _ (s .pre .0))
 
 pub put-header-spec : {M : Type 1} → statement M
 put-header-spec =

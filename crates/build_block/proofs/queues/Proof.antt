@@ -6,7 +6,6 @@ use Prim.Native.Nat.{ℕ, _+_, _-_, _*_, _≤_}
 use native.Mathlib.Omega.{arith}
 use lib.IntN.{ℤ}
 use lib.ListN.{length, take, drop, length-map}
-use lib.Seq.{take-take}
 use borrow.Rule.Slice.PartMut.{putMid}
 use Rattle.lists.specs.Plain.{toNat}
 use Rattle.lists.specs.Parts.{win, put, length-win, length-put, win-put-right, lent}
@@ -14,21 +13,12 @@ use Rattle.paper.specs.declared.Segment.{Segment}
 use Rattle.paper.specs.Words.{Axis, End, queueWords}
 use Rattle.records.specs.Records.{recordsOf}
 use Rattle.build_queue.specs.Ends.{axisOf}
-use Rattle.build_queue.specs.Runs.{named, Stands}
+use Rattle.build_queue.specs.Runs.{named, Stands, part-length, part-take}
 use Rattle.build_queue.specs.Queues.{queue-length}
 use Rattle.build_queue.specs.Parting.{By}
 use Rattle.build_block.specs.Joining.{queues-built}
 use Rattle.build_block.proofs.queues.Statement.{statement}
 use Rattle.build_block.proofs.queues.Tie as tie
-
--- the front of a part that was lent
-front-of : (i k n : ℕ) (xs : List ℤ) → k ≤ n → take k (take n (drop i xs)) ≡ win i k xs
-unfolding win
-front-of i k n xs h = take-take k n (drop i xs) h
-
-part-length : (i k : ℕ) (xs : List ℤ) → i + k ≤ length xs → length (take k (drop i xs)) ≡ k
-unfolding win
-part-length i k xs h = length-win i k xs h
 
 -- when the first queue is built, the part is as long, and the second run as it was
 module _ (rs : List Segment) (axis : Axis) (a : ℕ) (xs e₁ : List ℤ) (room : 4 + 4 * a ≤ length xs)
@@ -38,7 +28,7 @@ module _ (rs : List Segment) (axis : Axis) (a : ℕ) (xs e₁ : List ℤ) (room 
 
   built-length : length e₁ ≡ 2 * a
   built-length =
-      let n : length run ≡ a = ap length (front-of 4 a (4 + 2 * a - 4) xs (omega arith)) ∙ length-win 4 a xs (omega arith) in
+      let n : length run ≡ a = ap length (part-take 4 a (4 + 2 * a - 4) xs (omega arith)) ∙ length-win 4 a xs (omega arith) in
       ap length is₁ ∙ queue-length rs axis End.low (named run) ∙ ap (λ i. 2 * i) (length-map run toNat ∙ n)
 
   back : putMid 4 (4 + 2 * a - 4) xs e₁ ≡ put 4 e₁ xs
@@ -51,7 +41,7 @@ module _ (rs : List Segment) (axis : Axis) (a : ℕ) (xs e₁ : List ℤ) (room 
 
   second-front : take a (take (4 + 4 * a - (4 + 2 * a)) (drop (4 + 2 * a) (putMid 4 (4 + 2 * a - 4) xs e₁))) ≡ win (4 + 2 * a) a xs
   second-front =
-      front-of (4 + 2 * a) a (4 + 4 * a - (4 + 2 * a)) _ (omega arith)
+      part-take (4 + 2 * a) a (4 + 4 * a - (4 + 2 * a)) _ (omega arith)
       ∙ ap (win (4 + 2 * a) a) back
       ∙ win-put-right (4 + 2 * a) a 4 e₁ xs (omega (arith, built-length)) (omega (arith, built-length))
 
@@ -83,7 +73,7 @@ queue-requires c κs =
       s .pre .0,
       (
         part-length 4 (4 + 2 * a .stay - 4) (a .part .now) (omega (arith, s .pre .1 .0)) ∙ omega arith,
-        subst (Stands (By (recordsOf (a .ends .d) (a .table .now)) (axisOf (a .ends)))) (sym (front-of 4 (a .stay) (4 + 2 * a .stay - 4) (a .part .now) (omega arith))) (s .pre .1 .1),
+        subst (Stands (By (recordsOf (a .ends .d) (a .table .now)) (axisOf (a .ends)))) (sym (part-take 4 (a .stay) (4 + 2 * a .stay - 4) (a .part .now) (omega arith))) (s .pre .1 .1),
       ),
     )
 

@@ -1,15 +1,14 @@
 -- `build_block::spread` meets its contract. Assumes nothing.
 use borrow.Author.Needs.{needs}
-use mathlib.Core.Path.{_≡_, refl, sym, ap, _∙_}
-use Prim.Native.Nat.{_+_, _-_, _*_}
+use mathlib.Core.Path.{_≡_, _∙_}
+use Prim.Native.Nat.{_*_}
 use native.Mathlib.Omega.{arith}
 use lib.ListN.{length}
 use mir.Syntax.{w32}
 use Rattle.whole.specs.Whole.{kept}
 use Rattle.lists.specs.Plain.{sort}
-use Rattle.lists.specs.Parts.{win, put, length-win}
+use Rattle.lists.specs.Parts.{win, length-win}
 use Rattle.lists.specs.Sorting.{sort-length}
-use Rattle.build_block.specs.Blocks.{header}
 use Rattle.build_block.specs.Spreading.{chained}
 use Rattle.build_block.specs.Joining.{byLevel}
 use Rattle.build_block.proofs.spread.Statement.{statement}

@@ -1,7 +1,7 @@
 -- `build_queue::queue` meets its contract: two words, then the two queues in the parts lent on. Assumes nothing.
 use borrow.Author.Needs.{needs}
 use native.Mathlib.Omega.{arith}
-use mathlib.Core.Path.{_≡_, refl, sym, ap, _∙_}
+use mathlib.Core.Path.{_≡_, sym, ap, _∙_}
 use mathlib.Core.List.{List, [], _∷_, _++_, map}
 use Prim.Native.Nat.{ℕ, _+_, _-_, _*_, _/_, _<_}
 use lib.IntN.{ℤ, pos}
@@ -9,12 +9,11 @@ use lib.ListN.{length, length-map, take, drop, set}
 use lib.Seq.{length-take-le}
 use borrow.Rule.Slice.PartMut.{putMid}
 use Rattle.lists.specs.Plain.{toNat}
-use Rattle.lists.specs.Parts.{win, length-win}
 use Rattle.paper.specs.declared.Segment.{Segment}
 use Rattle.paper.specs.Words.{Axis, End, queueWords, queueWordsTo}
 use Rattle.records.specs.Records.{recordsOf}
 use Rattle.build_queue.specs.Ends.{axisOf, endOf}
-use Rattle.build_queue.specs.Runs.{named, Stands}
+use Rattle.build_queue.specs.Runs.{named, Stands, part-length}
 use Rattle.build_queue.specs.Queues.{queue-one}
 use Rattle.build_queue.specs.Parting as parting
 use borrow.Fn.Kinds.{In}
@@ -53,10 +52,6 @@ one rs axis end s (x ∷ y ∷ []) h z p =
     let w : pos (toNat x) ∷ [] ≡ x ∷ [] = ap (λ l. map pos (named l)) (sym e) ∙ p ∙ e in
     sym (ap (λ l. l ++ (pos 0 ∷ [])) w) ∙ sym (queue-one rs axis end (toNat x)) ∙ ap (λ l. queueWords rs axis end (named l)) (sym e)
 one rs axis end s (x ∷ y ∷ z′ ∷ xs) h z p = absurd (omega arith)
-
-part-length : (a k : ℕ) (xs : List ℤ) → a + k < length xs + 1 → length (take k (drop a xs)) ≡ k
-unfolding win
-part-length a k xs h = length-win a k xs (omega arith)
 
 -- what is known after `head`
 module _ (t : ℕ) (c : queue-lts.After-head (calls t) (queue-at t) queue.Post) where

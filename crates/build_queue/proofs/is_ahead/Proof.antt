@@ -1,7 +1,5 @@
 -- `build_queue::is_ahead` meets its contract. Assumes nothing.
 use mathlib.Core.Path.{_≡_, refl, sym, ap₂, subst, _∙_}
-use mathlib.Core.Bool.{Bool, true, false}
-use lib.IntN.{ℤ}
 use lib.Signed.{ltZ}
 use mir.Syntax.{w32}
 use mir.ValLaws.{toZ-ofZ}

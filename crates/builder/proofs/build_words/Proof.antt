@@ -4,24 +4,23 @@ use mathlib.Core.Path.{_≡_, refl, sym, ap, ap₂, subst, _∙_}
 use mathlib.Core.List.{List, [], _∷_, _++_, map}
 use Prim.Native.Nat.{ℕ, _+_, _-_, _*_, _≤_, _<_}
 use native.Mathlib.Omega.{arith}
-use lib.IntN.{ℤ, pos, negℤ}
+use lib.IntN.{ℤ, pos}
 use lib.ListN.{length, take, drop}
-use lib.Signed.{_≤ℤ_}
 use borrow.Rule.Slice.PartMut.{putMid}
 use mir.Syntax.{w32, w64}
 use mir.Val.{SFits, toZ, ofZ}
 use mir.ValLaws.{toZ-ofZ}
-use Rattle.whole.specs.Whole.{kept}
 use Rattle.whole.specs.Fits.{between, fits}
 use Rattle.lists.specs.Plain.{joined}
-use Rattle.lists.specs.Parts.{win, put, length-win}
+use Rattle.lists.specs.Parts.{win, put}
 use Rattle.paper.specs.Descriptor.{sizeOf, firstNumber}
-use Rattle.paper.specs.Words.{L, recordOf, levelsWords, horizontals, verticals, horizontal, vertical, headerWords}
+use Rattle.paper.specs.Words.{L, recordOf, levelsWords, horizontals, verticals, horizontal, vertical}
 use Rattle.paper.specs.declared.Descriptor.{Descriptor}
 use Rattle.paper.specs.declared.Segment.{Segment}
 use Rattle.records.specs.Records.{recordsOf}
 use Rattle.records.specs.Reading.{records-length}
 use Rattle.table.specs.Rows.{first-bounds}
+use Rattle.build_queue.specs.Runs.{part-length}
 use Rattle.build_block.specs.Sides.{Tidy}
 use Rattle.builder.specs.Straight.{level-tidy, upright-tidy}
 use Rattle.builder.specs.LevelRuns.{all-sorts}
@@ -29,10 +28,6 @@ use Rattle.builder.specs.Placing.{blocksOf}
 use Rattle.builder.specs.Whole as whole
 use Rattle.builder.proofs.build_words.Statement.{statement}
 use Rattle.builder.proofs.build_words.Tie as tie
-
-part-length : (i k : ℕ) (xs : List ℤ) → i + k ≤ length xs → length (take k (drop i xs)) ≡ k
-unfolding win
-part-length i k xs h = length-win i k xs h
 
 count-requires : tie.Need-count-requires
 count-requires c κs = c .pre .readable .held .extent

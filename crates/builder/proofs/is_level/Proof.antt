@@ -1,6 +1,6 @@
 -- `builder::is_level` meets its contract. Assumes nothing.
 use borrow.Author.Needs.{needs}
-use mathlib.Core.Path.{_≡_, ap₂, _∙_}
+use mathlib.Core.Path.{ap₂, _∙_}
 use mathlib.Core.Bool.{_&&_}
 use lib.Signed.{leZ}
 use mir.Syntax.{w32}
