@@ -74,10 +74,10 @@ def meeting(segment, window):
 
 # ---------------------------------------------------------------- Answer numbers
 
-# Request E1 has put 12 directly after 4.
+# Request E1 has put 12 directly after 4, and request E2 has put 7 last in scan and query.
 BUILDER_ORDER = [1, 2, 3, 4, 12, 7, 5, 6]
-SCAN_ORDER = [1, 2, 3, 4, 12, 8, 7, 5]
-QUERY_ORDER = [9, 8, 7, 10]
+SCAN_ORDER = [1, 2, 3, 4, 12, 8, 5, 7]
+QUERY_ORDER = [9, 8, 10, 7]
 CELL_ORDER = [3, 4, 12, 11]
 WORDS_ORDER = [3]
 MEETS_ORDER = [8, 5]
@@ -138,6 +138,11 @@ def short(have, need):
     return refused_if(have < need)
 
 
+def short_of_numbers(have, due):
+    """Request E2: the buffer is judged by the numbers due, and they are counted."""
+    return Place(0, due) if have < due else None
+
+
 def bad_window(window):
     a, b, c, d = window
     return refused_if(a > b or c > d or not all(within(edge, COORDINATE_MOST) for edge in window))
@@ -172,16 +177,19 @@ def table_judges(table, descriptor):
 
 def scan(table, descriptor, window, numbers):
     judges = table_judges(table, descriptor)
+    met = []
+
+    def too_many():
+        for i, segment in enumerate(segments_of(table, descriptor)):
+            if meeting(segment, window):
+                met.append(number_of(descriptor.lower, i))
+        return short_of_numbers(len(numbers), len(met))
+
     judges[8] = lambda: bad_window(window)
-    judges[7] = lambda: short(len(numbers), descriptor.n)
+    judges[7] = too_many
     refusal = first_refusal(SCAN_ORDER, judges)
     if refusal:
         return refusal, numbers
-    met = [
-        number_of(descriptor.lower, i)
-        for i, segment in enumerate(segments_of(table, descriptor))
-        if meeting(segment, window)
-    ]
     return Reply(0, len(met), 0, 0), met + numbers[len(met) :]
 
 
@@ -206,12 +214,10 @@ def query(index, window, numbers):
     judges = {
         9: lambda: bad_index(index),
         8: lambda: bad_window(window),
-        7: lambda: short(len(numbers), index[0]),
         10: spoiled,
+        7: lambda: short_of_numbers(len(numbers), len(walk.numbers)),
     }
     refusal = first_refusal(QUERY_ORDER, judges)
-    if refusal and refusal.number == 10:
-        return refusal, [0] * index[0] + numbers[index[0] :]
     if refusal:
         return refusal, numbers
     count = len(walk.numbers)

@@ -274,9 +274,14 @@ def old_cells(r, need):
 # ---------------------------------------------------------------- Good calls
 
 
+def a_room(r, n):
+    """How many number cells are lent: n of them hold any answer, fewer may do or not."""
+    return r.choice([n, n, n + r.randint(0, 2), r.randint(0, max(0, n)), r.randint(0, max(0, min(n, 3)))])
+
+
 def scan_call(r, arguments, window=None):
     window = window or a_window(r, segments_in(arguments))
-    return Call("scan", {**arguments, **window._asdict(), "numbers": old_cells(r, arguments["n"])})
+    return Call("scan", {**arguments, **window._asdict(), "numbers": old_cells(r, a_room(r, arguments["n"]))})
 
 
 def build_call(r, arguments):
@@ -285,7 +290,7 @@ def build_call(r, arguments):
 
 def query_call(r, index, window):
     n = index[0] if index else 0
-    return Call("query", {"index": index, **window._asdict(), "numbers": old_cells(r, max(0, min(n, SEGMENTS_MOST)))})
+    return Call("query", {"index": index, **window._asdict(), "numbers": old_cells(r, a_room(r, max(0, min(n, SEGMENTS_MOST))))})
 
 
 def an_index(r, segments):

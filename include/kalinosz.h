@@ -37,23 +37,23 @@ enum kalinosz_answer {
     KALINOSZ_STRIDES = 4,    /* a stride beyond its limits */
     KALINOSZ_COORDINATE = 5, /* a coordinate beyond its limits; reply.position is the first such position */
     KALINOSZ_SLANTED = 6,    /* build only: a segment neither horizontal nor vertical; reply.position is the first such position */
-    KALINOSZ_SHORT = 7,      /* index below kalinosz_words(n) words, or numbers below n cells */
+    KALINOSZ_SHORT = 7,      /* build: index below kalinosz_words(n) words; scan, query: numbers below the numbers due, and reply.count is how many those are */
     KALINOSZ_WINDOW = 8,     /* a > b, c > d, or an edge beyond its limits */
     KALINOSZ_INDEX = 9,      /* these words are no index: fewer than 4, bad n, lower bound or counts, or fewer than kalinosz_words(n) */
-    KALINOSZ_SPOILED = 10,   /* the query read a spoiled word; it has set the first n number cells to 0 */
+    KALINOSZ_SPOILED = 10,   /* the query read a spoiled word */
     KALINOSZ_PLACE = 11,     /* kalinosz_cell only: no such position or coordinate */
     KALINOSZ_OUTSIDE = 12    /* an addressed cell outside the table; reply.position is the first such position, reply.count its first such coordinate */
 };
 
 typedef struct kalinosz_reply {
     int64_t number;   /* the answer, one of the above */
-    int64_t count;    /* scan, query: how many numbers were written; build: how many words; answer 12: the coordinate, 0 to 3; otherwise 0 */
+    int64_t count;    /* scan, query: how many numbers were written; build: how many words; answer 7 of scan, query: how many numbers are due; answer 12: the coordinate, 0 to 3; otherwise 0 */
     int64_t visits;   /* query: the steps of the walk, at most 4L^2 + 15L + 2 + 2 count on built words (L: binary digits of n); otherwise 0 */
     int64_t position; /* the first position at fault (5, 6, 12); otherwise 0. A position counts from 0, whatever the lower bound */
 } kalinosz_reply;
 
 /* Lists the numbers of all segments, slanted ones too, that meet the window, ascending, in numbers[0 .. count-1]; later cells keep their values.
-   numbers has n cells or more. Answers, the first that applies: 1, 2, 3, 4, 12, 8, 7, 5. */
+   n cells always hold them; with fewer look at count, which a 7 returns too, and lend again. Answers, the first that applies: 1, 2, 3, 4, 12, 8, 5, 7. */
 kalinosz_reply kalinosz_scan(
     const int32_t *table, size_t length,
     int64_t kind, int64_t base, int64_t lower, int64_t n, int64_t segment_stride, int64_t coordinate_stride,
@@ -69,7 +69,7 @@ kalinosz_reply kalinosz_build(
     int32_t *index, size_t words);
 
 /* Lists the numbers of the segments that meet the window, each once, in the order of the walk, in numbers[0 .. count-1]; later cells keep their values.
-   index is only read; numbers has n cells or more. Answers, the first that applies: 9, 8, 7, 10. */
+   index is only read. n cells always hold them; with fewer look at count, which a 7 returns too, and lend again. Answers, the first that applies: 9, 8, 10, 7. */
 kalinosz_reply kalinosz_query(
     const int32_t *index, size_t words,
     int64_t a, int64_t b, int64_t c, int64_t d,

@@ -2,23 +2,24 @@
 -- number cells held before.
 use mathlib.Core.Path.{_≡_, refl, sym, ap, ap₂, _∙_}
 use mathlib.Core.Bool.{Bool, true, false, not, cond, _&&_, _||_}
-use mathlib.Core.List.{List, _∷_}
+use mathlib.Core.List.{List, [], _∷_, _++_}
 use Prim.Native.Nat.{ℕ, _+_, _-_, _*_, _≤_, _<_}
 use native.Mathlib.Nat.{mul-le-mul}
 use native.Mathlib.Omega.{arith}
 use lib.Dec.{ltb}
-use borrow.Author.Tests.{le-leb, lt-leb, le-ltb}
+use native.Mathlib.Decide.{decLt}
+use borrow.Author.Tests.{le-leb, lt-leb, le-ltb, ltb-true}
 use lib.IntN.{ℤ, pos}
-use lib.ListN.{length, take, drop, replicate, length-map, length-replicate}
+use lib.ListN.{length, take, drop, replicate, length-append, length-map, length-replicate}
 use lib.Seq.{take-append-seam}
-use Rattle.lists.specs.Digits.{digits-least}
+use Rattle.lists.specs.Digits.{digits-least, digits-mono}
 use Rattle.lists.specs.Choosing.{any-none, chosen-none}
 use Rattle.paper.specs.Descriptor.{cellOf, segmentOf, outside}
-use Rattle.paper.specs.Answers.{answerAt, positionsOf, badExtent, badCells, badBuffer, badWindow, farOff, slanted, refused, done}
+use Rattle.paper.specs.Answers.{answerAt, positionsOf, badExtent, badCells, badRoom, badWindow, farOff, slanted, refused, done}
 use Rattle.paper.specs.Words.{L, D, W, indexWords}
-use Rattle.paper.specs.Walk.{Walked, walked, stopped, word, sizeIn, walkOf}
-use Rattle.paper.specs.Orders.{badIndex, badWalk}
-use Rattle.paper.specs.Results.{Result, over, afterRefusal, numbersOf, built, listing, queried}
+use Rattle.paper.specs.Walk.{Event, visit, due, spoiled, Walked, walked, stopped, word, sizeIn, step, run, walk, walkOf}
+use Rattle.paper.specs.Orders.{badIndex, badWalk, dueBy}
+use Rattle.paper.specs.Results.{Result, over, numbersOf, built, listing, queried}
 use Rattle.paper.specs.Demands.{Straight}
 use Rattle.paper.specs.Lines.{printed, tabbed, letter-A}
 use Rattle.paper.specs.declared.Segment.{Segment}
@@ -26,44 +27,85 @@ use Rattle.paper.specs.declared.Window.{Window}
 use Rattle.table.specs.Cells.{rowOutside}
 use Rattle.table.specs.Rows.{cells-are}
 use Rattle.table.specs.Segments.{length-segments, chosen-are}
+use Rattle.walk.specs.Header.{sound-index}
 use Rattle.promise.specs.Index.{index-length}
 use Rattle.lines.specs.States.{descriptorOf, firstOf, segmentsIn, Fits}
 use Rattle.lines.specs.declared.Table.{Table}
 
--- ---- an A line, whatever stood in the cells
-same-print : (ws : List ℤ) (w : Window) (xs ys : List ℤ) → length xs ≡ length ys → printed (queried ws w xs) ≡ printed (queried ws w ys)
-unfolding queried listing
-same-print ws w xs ys e =
-    ap (λ n. printed (answers (badIndex ws .given) (badWindow w .given) (ltb n (sizeIn ws)) (badWalk (walkOf ws w) .given) xs)) e
-    ∙ go (badIndex ws .given) (badWindow w .given) (ltb (length ys) (sizeIn ws)) (badWalk (walkOf ws w) .given) (walkOf ws w)
+-- ---- more segments take more words
+more-words : (m n : ℕ) → W m ≤ W n → m ≤ n
+more-words m n h = go (decLt n m)
   where
-    answers : Bool → Bool → Bool → Bool → List ℤ → Result
-    answers b c d f cells =
-        cond b (refused (badIndex ws), afterRefusal (badIndex ws) (sizeIn ws) cells)
-        (cond c (refused (badWindow w), afterRefusal (badWindow w) (sizeIn ws) cells)
-        (cond d (refused (badBuffer (sizeIn ws) 0), afterRefusal (badBuffer (sizeIn ws) 0) (sizeIn ws) cells)
-        (cond f (refused (badWalk (walkOf ws w)), afterRefusal (badWalk (walkOf ws w)) (sizeIn ws) cells) (listing (word ws 1) cells (walkOf ws w)))))
+    twice : (a b : ℕ) → 2 * a * b ≡ 2 * (a * b)
+    twice a b = omega arith
 
-    list : (r : Walked) → printed (listing (word ws 1) xs r) ≡ printed (listing (word ws 1) ys r)
-    list (walked ps v) =
-        ap (λ l. letter-A ∷ tabbed (pos (length ps) ∷ pos v ∷ l)) (front xs ∙ sym (front ys))
-      where
-        front : (cells : List ℤ) → take (length ps) (over (numbersOf (word ws 1) ps) cells) ≡ numbersOf (word ws 1) ps
-        front cells =
-            ap (λ n. take n (over (numbersOf (word ws 1) ps) cells)) (sym (length-map ps _))
-            ∙ take-append-seam (numbersOf (word ws 1) ps) (drop (length (numbersOf (word ws 1) ps)) cells)
-    list stopped = refl
+    less : n < m → ⊥
+    less l =
+        let d : D n ≤ D m = omega (arith, digits-mono (n - 1) (m - 1) (omega arith)) in
+        let k : n * D n ≤ m * D m = mul-le-mul (omega arith) d in
+        omega (arith, h, l, twice n (D n), twice m (D m), k)
 
-    go : (b c d f : Bool) (r : Walked) → printed (answers b c d f xs) ≡ printed (answers b c d f ys)
-    go true c d f r = refl
-    go false true d f r = refl
-    go false false true f r = refl
-    go false false false true r = refl
-    go false false false false r = list (walkOf ws w)
+    go : Dec (n < m) → m ≤ n
+    go (yes l) = absurd (less l)
+    go (no l) = omega arith
 
--- the cells of a program's numbers are as many as its segments
-pub printed-over : (ws : List ℤ) (w : Window) (n : ℕ) (cells : List ℤ) → length cells ≡ n → printed (queried ws w cells) ≡ printed (queried ws w (replicate n (pos 0)))
-printed-over ws w n cells e = same-print ws w cells (replicate n (pos 0)) (e ∙ sym (length-replicate n (pos 0)))
+-- ---- a walk lists at most n
+few-step : (n : ℕ) (o : Walked) (e : Event) → dueBy o ≤ n → dueBy (step n o e) ≤ n
+unfolding step
+few-step n stopped e h = h
+few-step n (walked ps v) (visit k i) h = h
+few-step n (walked ps v) (due p) h = go (ltb (length ps) n) refl
+  where
+    go : (b : Bool) → ltb (length ps) n ≡ b → dueBy (cond b (walked (ps ++ (p ∷ [])) v) stopped) ≤ n
+    go true e = omega (arith, length-append ps (p ∷ []), ltb-true (length ps) n e)
+    go false e = omega arith
+few-step n (walked ps v) spoiled h = omega arith
+
+few-run : (n : ℕ) (es : List Event) (o : Walked) → dueBy o ≤ n → dueBy (run n o es) ≤ n
+unfolding run
+few-run n [] o h = h
+few-run n (e ∷ es) o h = few-run n es (step n o e) (few-step n o e h)
+
+few-due : (ws : List ℤ) (w : Window) → dueBy (walkOf ws w) ≤ sizeIn ws
+unfolding walkOf
+few-due ws w = few-run (sizeIn ws) (walk ws w) (walked [] 0) (omega arith)
+
+-- ---- an A line over W(n) words into n cells, whatever stood in them: n cells hold all that is due
+module _ (ws : List ℤ) (w : Window) (n : ℕ) (size : length ws ≡ W n) where
+  within : badIndex ws .given ≡ false → dueBy (walkOf ws w) ≤ n
+  within e = omega (arith, few-due ws w, more-words (sizeIn ws) n (omega (arith, size, sound-index ws e .words)))
+
+  same-print : (xs ys : List ℤ) → length xs ≡ n → length ys ≡ n → printed (queried ws w xs) ≡ printed (queried ws w ys)
+  unfolding queried listing
+  same-print xs ys ex ey = go (badIndex ws .given) (badWindow w .given) (badWalk (walkOf ws w) .given) within
+    where
+      answers : Bool → Bool → Bool → List ℤ → Result
+      answers b c f cells =
+          cond b (refused (badIndex ws), cells)
+          (cond c (refused (badWindow w), cells)
+          (cond f (refused (badWalk (walkOf ws w)), cells)
+          (cond (ltb (length cells) (dueBy (walkOf ws w))) (refused (badRoom (dueBy (walkOf ws w)) (length cells)), cells) (listing (word ws 1) cells (walkOf ws w)))))
+
+      list : (r : Walked) → printed (listing (word ws 1) xs r) ≡ printed (listing (word ws 1) ys r)
+      list (walked ps v) =
+          ap (λ l. letter-A ∷ tabbed (pos (length ps) ∷ pos v ∷ l)) (front xs ∙ sym (front ys))
+        where
+          front : (cells : List ℤ) → take (length ps) (over (numbersOf (word ws 1) ps) cells) ≡ numbersOf (word ws 1) ps
+          front cells =
+              ap (λ n. take n (over (numbersOf (word ws 1) ps) cells)) (sym (length-map ps _))
+              ∙ take-append-seam (numbersOf (word ws 1) ps) (drop (length (numbersOf (word ws 1) ps)) cells)
+      list stopped = refl
+
+      go : (b c f : Bool) → (b ≡ false → dueBy (walkOf ws w) ≤ n) → printed (answers b c f xs) ≡ printed (answers b c f ys)
+      go true c f h = refl
+      go false true f h = refl
+      go false false true h = refl
+      go false false false h =
+          rw (le-ltb (length xs) (dueBy (walkOf ws w)) (omega (arith, ex, h refl)), le-ltb (length ys) (dueBy (walkOf ws w)) (omega (arith, ey, h refl)))
+          (list (walkOf ws w))
+
+  pub printed-over : (cells : List ℤ) → length cells ≡ n → printed (queried ws w cells) ≡ printed (queried ws w (replicate n (pos 0)))
+  printed-over cells e = same-print cells (replicate n (pos 0)) e (length-replicate n (pos 0))
 
 -- ---- the words that at most 256 segments take
 pub most-words : (n : ℕ) → n ≤ 256 → W n ≤ 7684

@@ -23,9 +23,9 @@ use Rattle.table.specs.Cells.{Held, foundAt, outsideAt}
 abbrev pub carriesPlace : ℕ → Bool
 carriesPlace number = eqb number 5 || eqb number 6 || eqb number 12
 
--- the answers that carry a count: 12, the coordinate of the cell
+-- the answers that carry a count: 7, the numbers due, and 12, the coordinate of the cell
 abbrev pub carriesCount : ℕ → Bool
-carriesCount number = eqb number 12
+carriesCount number = eqb number 7 || eqb number 12
 
 -- a refusal by its number; count and place are returned where the answer carries them
 abbrev pub refusalAt : ℕ → ℕ → ℕ → Answer

@@ -1,17 +1,18 @@
--- What the public query gives along its order 9, 8, 7, 10, from what the walk gives; and that what `queried` gives keeps the promises (`with-promise`).
-use mathlib.Core.Path.{_≡_, refl, sym, ap, ap₂, subst, _∙_}
-use mathlib.Core.Bool.{Bool, true, false, cond}
-use mathlib.Core.List.{List, _++_}
-use Prim.Native.Nat.{ℕ, _+_, _≤_, _<_}
+-- What the public query gives along its order 9, 8, 10, 7, from what the walk gives; and that what `queried` gives keeps the promises (`with-promise`).
+use mathlib.Core.Path.{_≡_, refl, sym, ap, subst, _∙_}
+use mathlib.Core.Bool.{true, false}
+use mathlib.Core.List.{List, []}
+use Prim.Native.Nat.{ℕ, _≤_, _<_}
 use native.Mathlib.Omega.{arith}
 use borrow.Author.Tests.{lt-ltb, le-ltb}
 use lib.IntN.{ℤ, pos}
-use lib.ListN.{length, take, drop, replicate, length-replicate, length-map}
-use lib.Seq.{take-all}
-use Rattle.lists.specs.Parts.{put}
+use lib.ListN.{length, take, drop, length-map}
+use lib.Seq.{take-at}
+use Rattle.lists.specs.Tests.{clash}
+use Rattle.lists.specs.Choosing.{filled, filled-all, filled-length}
 use Rattle.paper.specs.Descriptor.{numberOf}
 use Rattle.paper.specs.Answers.{badWindow, refused, done}
-use Rattle.paper.specs.Orders.{badIndex, isStopped}
+use Rattle.paper.specs.Orders.{badIndex, isStopped, dueBy}
 use Rattle.paper.specs.Walk.{word, sizeIn, Walked, walked, stopped, walkOf}
 use Rattle.paper.specs.Results.{Result, over, numbersOf, listing, queried}
 use Rattle.paper.specs.Demands.{QueryPromise, QueryPromises}
@@ -21,9 +22,54 @@ use Rattle.tally.specs.Fold.{Given}
 use Rattle.tally.specs.declared.Tally.{Tally}
 use Rattle.marks.specs.Orders.{refusalAt}
 
+-- the positions that a walk which has ended lists
+abbrev pub listedIn : Walked → List ℕ
+listedIn (walked ps v) = ps
+listedIn stopped = []
+
+-- a walk that has ended, and the room that it was walked into: where that holds the `due` numbers, they stand at its front
+pub record Due (ws : List ℤ) (w : Window) (room : List ℤ) (due : ℕ) : Type 0 where
+  pub sound : badIndex ws .given ≡ false
+  pub ends : isStopped (walkOf ws w) ≡ false
+  pub count : due ≡ length (listedIn (walkOf ws w))
+  pub front : due ≤ length room → take due room ≡ numbersOf (word ws 1) (listedIn (walkOf ws w))
+
+module _ (n : ℕ) (first : ℤ) (room : List ℤ) where
+  pub spoilt : (o : Walked) (t : Tally) (cells : List ℤ) → Given n first room o t cells → 0 < t .stopped → isStopped o ≡ true
+  spoilt (walked ps v) t cells g h = absurd (omega (arith, ap (λ (x : Tally). x .stopped) (g .0)))
+  spoilt stopped t cells g h = refl
+
+  -- what a walk that was not spoiled gives
+  pub record Ended (o : Walked) (t : Tally) (cells : List ℤ) : Type 0 where
+    pub ends : isStopped o ≡ false
+    pub count : t .listed ≡ length (listedIn o)
+    pub due : t .listed ≡ dueBy o
+    pub few : t .listed ≤ n
+    pub cellsAre : cells ≡ filled (numbersOf first (listedIn o)) room
+    pub shows : (numbers : List ℤ) → (done (t .listed) (t .visits), over (numbersOf first (listedIn o)) numbers) ≡ listing first numbers o
+
+  pub ended : (o : Walked) (t : Tally) (cells : List ℤ) → Given n first room o t cells → t .stopped ≤ 0 → Ended o t cells
+  unfolding listing
+  ended (walked ps v) t cells g h =
+      let e = ap (λ (x : Tally). x .listed) (g .0) in
+      record {
+        ends = refl;
+        count = e;
+        due = e;
+        few = omega (arith, e, g .2);
+        cellsAre = g .1;
+        shows = λ numbers. ap (λ (x : Tally). (done (x .listed) (x .visits), over (numbersOf first ps) numbers)) (g .0);
+      }
+  ended stopped t cells g h = absurd (omega (arith, g .0))
+
+-- the numbers at the front of what was filled, where there is room for all
+pub front-of : (new cells : List ℤ) (k : ℕ) → k ≡ length new → k ≤ length cells → take k (filled new cells) ≡ new
+front-of new cells k e h =
+    ap (take k) (filled-all new cells (omega (arith, e, h))) ∙ take-at new (drop (length new) cells) k (sym e)
+
 module _ (ws : List ℤ) (w : Window) (numbers : List ℤ) where
   pub with-promise : {r : Result} → r ≡ queried ws w numbers → (r ≡ queried ws w numbers) × QueryPromises ws w numbers r
-  with-promise e = (e, λ first segments index good room. subst (QueryPromise first segments w) (sym e) (query-promise first segments w ws numbers index good room))
+  with-promise e = (e, λ first segments index good. subst (QueryPromise first segments w (length numbers)) (sym e) (query-promise first segments w ws numbers index good))
 
   pub index-refused : badIndex ws .given ≡ true → (refused (refusalAt 9 0 0), numbers) ≡ queried ws w numbers
   unfolding queried
@@ -35,55 +81,47 @@ module _ (ws : List ℤ) (w : Window) (numbers : List ℤ) where
     window-refused e = rw (e9, e)
 
     module _ (e8 : badWindow w .given ≡ false) where
-      pub buffer-refused : length numbers < sizeIn ws → (refused (refusalAt 7 0 0), numbers) ≡ queried ws w numbers
+      pub walk-refused : isStopped (walkOf ws w) ≡ true → (refused (refusalAt 10 0 0), numbers) ≡ queried ws w numbers
       unfolding queried
-      buffer-refused h = rw (e9, e8, lt-ltb (length numbers) (sizeIn ws) h)
+      walk-refused e = rw (e9, e8, e)
 
-      module _ (room : sizeIn ws ≤ length numbers) where
-        -- the first n cells set to 0, the rest as before
-        cleared : (cells c : List ℤ) → c ≡ put 0 (replicate (sizeIn ws) (pos 0)) cells → drop (sizeIn ws) cells ≡ drop (sizeIn ws) numbers
-            → c ≡ over (replicate (sizeIn ws) (pos 0)) numbers
-        unfolding put
-        cleared cells c e d =
-            let z = replicate (sizeIn ws) (pos 0) in
-            let k : 0 + length z ≡ sizeIn ws = omega (arith, length-replicate (sizeIn ws) (pos 0)) in
-            e ∙ ap (λ (j : ℕ). z ++ drop j cells) k ∙ ap (λ (ys : List ℤ). z ++ ys) d ∙ ap (λ (j : ℕ). z ++ drop j numbers) (sym (length-replicate (sizeIn ws) (pos 0)))
-
-        -- only 10 is left to be judged
-        last : queried ws w numbers
-            ≡ cond (isStopped (walkOf ws w)) (refused (refusalAt 10 0 0), over (replicate (sizeIn ws) (pos 0)) numbers) (listing (word ws 1) numbers (walkOf ws w))
+      module _ (room : List ℤ) (t : Tally) (cells : List ℤ) (o : Ended (sizeIn ws) (word ws 1) room (walkOf ws w) t cells) where
+        pub room-refused : length numbers < t .listed → (refused (refusalAt 7 (t .listed) 0), numbers) ≡ queried ws w numbers
         unfolding queried
-        last = rw (e9, e8, le-ltb (length numbers) (sizeIn ws) room)
+        room-refused h = rw (e9, e8, o .ends, ← o .due, lt-ltb (length numbers) (t .listed) h)
 
-        spoilt : (o : Walked) (t : Tally) (cells : List ℤ) → Given (sizeIn ws) (word ws 1) numbers o t cells → 0 < t .stopped
-            → (isStopped o ≡ true) × (drop (sizeIn ws) cells ≡ drop (sizeIn ws) numbers)
-        spoilt (walked ps v) t cells g h = absurd (omega (arith, ap (λ (x : Tally). x .stopped) (g .0)))
-        spoilt stopped t cells g h = (refl, g .1)
+        pub walk-done : (c : List ℤ) → t .listed ≤ length numbers → c ≡ over (numbersOf (word ws 1) (listedIn (walkOf ws w))) numbers
+            → (done (t .listed) (t .visits), c) ≡ queried ws w numbers
+        unfolding queried
+        walk-done c h e = rw (e9, e8, o .ends, ← o .due, le-ltb (length numbers) (t .listed) h, e) (o .shows numbers)
 
-        pub walk-refused : (t : Tally) (cells : List ℤ) → Given (sizeIn ws) (word ws 1) numbers (walkOf ws w) t cells → 0 < t .stopped
-            → (c : List ℤ) → c ≡ put 0 (replicate (sizeIn ws) (pos 0)) cells → (refused (refusalAt 10 0 0), c) ≡ queried ws w numbers
-        walk-refused t cells g h c e =
-            let s = spoilt (walkOf ws w) t cells g h in
-            ap (λ (x : List ℤ). (refused (refusalAt 10 0 0), x)) (cleared cells c e (s .1))
-            ∙ sym (last ∙ ap (λ (b : Bool). cond b (refused (refusalAt 10 0 0), over (replicate (sizeIn ws) (pos 0)) numbers) (listing (word ws 1) numbers (walkOf ws w))) (s .0))
+        -- what the numbers are written from
+        pub due-in : Due ws w cells (t .listed)
+        due-in = record {
+          sound = e9;
+          ends = o .ends;
+          count = o .count;
+          front = λ h. ap (take (t .listed)) (o .cellsAre) ∙ front-of (numbersOf (word ws 1) (listedIn (walkOf ws w))) room (t .listed) size (omega (arith, h, kept));
+        }
+          where
+            size : t .listed ≡ length (numbersOf (word ws 1) (listedIn (walkOf ws w)))
+            size = o .count ∙ sym (length-map (listedIn (walkOf ws w)) (numberOf (word ws 1)))
 
-        whole : (o : Walked) (t : Tally) (cells : List ℤ) → Given (sizeIn ws) (word ws 1) numbers o t cells → t .stopped ≤ 0
-            → (isStopped o ≡ false) × ((done (t .listed) (t .visits), cells) ≡ listing (word ws 1) numbers o) × (t .listed ≤ sizeIn ws)
-        unfolding listing
-        whole (walked ps v) t cells g h =
-            let e : length (numbersOf (word ws 1) ps) ≡ length ps = length-map ps (numberOf (word ws 1)) in
-            let f : take (length numbers) (numbersOf (word ws 1) ps) ≡ numbersOf (word ws 1) ps = take-all (length numbers) (numbersOf (word ws 1) ps) (omega (arith, g .2)) in (
-              refl,
-              ap₂ (λ (x : Tally) (ys : List ℤ). (done (x .listed) (x .visits), ys)) (g .0) (g .1 ∙ ap (λ (ys : List ℤ). over ys numbers) f),
-              omega (arith, g .2, ap (λ (x : Tally). x .listed) (g .0)),
-            )
-        whole stopped t cells g h = absurd (omega (arith, g .0))
+            kept : length cells ≡ length room
+            kept = ap length (o .cellsAre) ∙ filled-length (numbersOf (word ws 1) (listedIn (walkOf ws w))) room
 
-        module _ (t : Tally) (cells : List ℤ) (g : Given (sizeIn ws) (word ws 1) numbers (walkOf ws w) t cells) (h : t .stopped ≤ 0) where
-          pub listed-few : t .listed ≤ sizeIn ws
-          listed-few = whole (walkOf ws w) t cells g h .2
+-- ---- the numbers in the cells lent: copied from the room, or by a second walk
+module _ {ws : List ℤ} {w : Window} {room : List ℤ} {due : ℕ} (h : Due ws w room due) (numbers : List ℤ) (l : due ≤ length numbers) where
+  size : length (numbersOf (word ws 1) (listedIn (walkOf ws w))) ≡ due
+  size = length-map (listedIn (walkOf ws w)) (numberOf (word ws 1)) ∙ sym (h .count)
 
-          pub walk-done : (done (t .listed) (t .visits), cells) ≡ queried ws w numbers
-          walk-done =
-              let s = whole (walkOf ws w) t cells g h in
-              s .1 ∙ sym (last ∙ ap (λ (b : Bool). cond b (refused (refusalAt 10 0 0), over (replicate (sizeIn ws) (pos 0)) numbers) (listing (word ws 1) numbers (walkOf ws w))) (s .0))
+  pub copied : due ≤ length room → filled (take due room) numbers ≡ over (numbersOf (word ws 1) (listedIn (walkOf ws w))) numbers
+  copied g = ap (λ xs. filled xs numbers) (h .front g) ∙ filled-all (numbersOf (word ws 1) (listedIn (walkOf ws w))) numbers (omega (arith, size))
+
+  pub walked-again : (t : Tally) (cells : List ℤ) → Given (sizeIn ws) (word ws 1) numbers (walkOf ws w) t cells
+      → cells ≡ over (numbersOf (word ws 1) (listedIn (walkOf ws w))) numbers
+  walked-again t cells g = again (walkOf ws w) (h .ends) g ∙ filled-all (numbersOf (word ws 1) (listedIn (walkOf ws w))) numbers (omega (arith, size))
+    where
+      again : (o : Walked) → isStopped o ≡ false → Given (sizeIn ws) (word ws 1) numbers o t cells → cells ≡ filled (numbersOf (word ws 1) (listedIn o)) numbers
+      again (walked ps v) e g = g .1
+      again stopped e g = clash e

@@ -8,10 +8,12 @@ use paper::Descriptor;
 use paper::Reply;
 use paper::Window;
 
+mod listing;
 mod refusals;
 
-// The numbers of the segments that meet a window, ascending, into the first cells; order 1, 2, 3, 4, 12, 8, 7, 5.
+// The numbers of the segments that meet a window, ascending, into the first cells; order 1, 2, 3, 4, 12, 8, 5, 7.
 // Answer 0 promises that the number of each meeting segment is listed once, that nothing else is, and that the numbers ascend.
+// They are counted first only where the cells may not hold them, so that no refusal has changed a cell.
 pub fn scan(table: &[i32], descriptor: Descriptor, window: Window, numbers: &mut [i32]) -> Reply
     ensures { λ r. ⌜ Scanned (now (table .entry)) descriptor window (now (numbers .entry)) (r, now (numbers .exit)) ⌝ }
     ensures promise { λ r. ⌜ (r .number ≡ pos 0 → ScanPromise (now (table .entry)) descriptor window (r, now (numbers .exit))) ⌝ }
@@ -24,12 +26,14 @@ pub fn scan(table: &[i32], descriptor: Descriptor, window: Window, numbers: &mut
         return refusals::refusal(8, 0, 0);
     }
     let n = table::count(descriptor);
-    if numbers.len() < n {
-        return refusals::refusal(7, 0, 0);
-    }
     let far = table::first_far(table, descriptor, n);
     if far < n {
         return refusals::refusal(5, 0, far);
+    }
+    let lent = numbers.len();
+    let due = refusals::due(table, descriptor, window, lent, n);
+    if lent < due {
+        return refusals::refusal(7, due, 0);
     }
     let count = scan::list(table, descriptor, window, numbers);
     refusals::done(count, 0)
@@ -62,8 +66,9 @@ pub fn build(table: &[i32], descriptor: Descriptor, index: &mut [i32]) -> Reply
     refusals::done(words, 0)
 }
 
-// The numbers that the walk of an index lists for a window, into the first cells; order 9, 8, 7, 10. Answer 10 sets the first n cells to 0.
-// Words that are an index of a table's segments, a good window and n cells promise answer 0, each meeting segment's number once and no other, and few visits.
+// The numbers that the walk of an index lists for a window, into the first cells; order 9, 8, 10, 7.
+// Words that are an index of a table's segments and a good window promise each meeting segment's number once and no other, and few visits; where the cells
+// do not hold them, answer 7 and how many they are. The walk lists into a room of its own first, so that no refusal has changed a cell.
 pub fn query(words: &[i32], window: Window, numbers: &mut [i32]) -> Reply
     ensures { λ r. ⌜ (r, now (numbers .exit)) ≡ queried (now (words .entry)) window (now (numbers .entry)) ⌝ }
     ensures promise { λ r. ⌜ QueryPromises (now (words .entry)) window (now (numbers .entry)) (r, now (numbers .exit)) ⌝ }
@@ -74,14 +79,15 @@ pub fn query(words: &[i32], window: Window, numbers: &mut [i32]) -> Reply
     if meeting::bad_window(window) {
         return refusals::refusal(8, 0, 0);
     }
-    let n = tally::whole_at(words, 0, 0);
-    if numbers.len() < n {
-        return refusals::refusal(7, 0, 0);
-    }
-    let tally = walk::walk(words, window, numbers);
+    let mut room = [0i32; 1024];
+    let tally = walk::walk(words, window, &mut room);
     if 0 < tally.stopped {
-        records::clear(numbers, 0, n);
         return refusals::refusal(10, 0, 0);
     }
-    refusals::done(tally.listed, tally.visits)
+    let due = tally.listed;
+    if numbers.len() < due {
+        return refusals::refusal(7, due, 0);
+    }
+    listing::write(words, window, &room, numbers, due);
+    refusals::done(due, tally.visits)
 }

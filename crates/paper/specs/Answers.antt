@@ -74,9 +74,13 @@ slanted s = not (same (s .y1) (s .y2)) && not (same (s .x1) (s .x2))
 abbrev pub badSlant : List Segment → Answer
 badSlant segments = answerAt 6 (positionsOf slanted segments)
 
--- 7: index buffer below W(n) words, or number buffer below n cells; what is asked and what is lent
+-- 7: index buffer below W(n) words; what is asked and what is lent
 abbrev pub badBuffer : ℕ → ℕ → Answer
 badBuffer asked lent = answer 7 (ltb lent asked)
+
+-- 7: number buffer below the k numbers due, and k returned as count. Document 01 said 'below n cells'; request E2 has it so
+abbrev pub badRoom : ℕ → ℕ → Answer
+badRoom due lent = record { number = 7; given = ltb lent due; count = due; position = 0 }
 
 -- 8: a > b, c > d, or an edge beyond its limits
 abbrev pub badWindow : Window → Answer

@@ -102,6 +102,8 @@ pub record Asked (segments : List Segment) (w : Window) (r : Walked) : Type 0 wh
   pub visits : ℕ
   -- it reads no spoiled word
   pub ends : r ≡ walked listed visits
+  -- n cells hold all that it lists
+  pub within : length listed ≤ length segments
   -- demand 2
   pub once : ListsOnce segments w listed
   pub groups : InGroups segments w listed
@@ -115,11 +117,20 @@ IndexDemands =
     → badWindow w .given ≡ false
     → Asked segments w (walkOf ws w)
 
--- what a query promises its caller on words that are an index of segments, where the window is good and n cells are lent
-pub record QueryPromise (first : ℤ) (segments : List Segment) (w : Window) (r : Result) : Type 0 where
+-- what a query that is done promises its caller
+pub record QueryDone (first : ℤ) (segments : List Segment) (w : Window) (r : Result) : Type 0 where
   pub isDone : r .0 .number ≡ pos 0
   pub lists : ListsNumbers first segments w (listedBy r)
   pub few : r .0 .visits ≤ℤ pos (mostVisits (length segments) (toNat (r .0 .count)))
+
+-- what a query promises its caller on words that are an index of segments, where the window is good: the numbers due are those that demand 2 asks for, at most n;
+-- where they fit in the cells lent it is done, and where they do not it says how many they are
+pub record QueryPromise (first : ℤ) (segments : List Segment) (w : Window) (lent : ℕ) (r : Result) : Type 0 where
+  pub due : List ℤ
+  pub dueOnce : ListsNumbers first segments w due
+  pub dueFew : length due ≤ length segments
+  pub fits : length due ≤ lent → QueryDone first segments w r
+  pub short : lent < length due → (r .0 .number ≡ pos 7) × (r .0 .count ≡ pos (length due))
 
 -- that, for every table that the words are an index of
 abbrev pub QueryPromises : List ℤ → Window → List ℤ → Result → Type 0
@@ -127,5 +138,4 @@ QueryPromises ws w numbers r =
     (first : ℤ) (segments : List Segment)
     → IndexOf first segments ws
     → badWindow w .given ≡ false
-    → length segments ≤ length numbers
-    → QueryPromise first segments w r
+    → QueryPromise first segments w (length numbers) r

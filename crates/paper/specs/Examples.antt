@@ -131,7 +131,7 @@ builderRows =
     ∷ build tied (descriptor "1 0 10 9 4 1") (sevens 203) (reply "0 202 0 0", tiedWords ++ sevens 1)
     ∷ []
 
--- ---- the scan's order: 1, 2, 3, 4, 12, 8, 7, 5
+-- ---- the scan's order: 1, 2, 3, 4, 12, 8, 5, 7
 
 abbrev scanRows : List Row
 scanRows =
@@ -141,8 +141,12 @@ scanRows =
     ∷ scan (cells "0 2 6 2") (descriptor "1 0 0 1 0 1048577") (window "1 0 0 0") [] (reply "4 0 0 0", [])
     ∷ scan (cells "0 2 6 2") (descriptor "1 0 0 2 0 2") (window "1 0 0 0") [] (reply "12 2 0 0", [])
     ∷ scan (cells "0 0 0 536870913") (descriptor "1 0 0 1 0 1") (window "1 0 0 0") [] (reply "8 0 0 0", [])
-    ∷ scan (cells "0 0 0 536870913") (descriptor "1 0 0 1 0 1") (window "0 0 0 0") [] (reply "7 0 0 0", [])
-    ∷ scan (cells "0 0 0 536870913") (descriptor "1 0 0 1 0 1") (window "0 0 0 0") (sevens 1) (reply "5 0 0 0", sevens 1)
+    ∷ scan (cells "0 0 0 0 0 0 0 536870913") (descriptor "1 0 0 2 4 1") (window "0 0 0 0") [] (reply "5 0 0 1", [])
+    -- 7 exactly where the buffer is shorter than the numbers due, which it counts; of three segments two meet, or none
+    ∷ scan (cells "0 0 0 0 9 9 9 9 0 0 0 5") (descriptor "1 0 0 3 4 1") (window "0 0 0 0") [] (reply "7 2 0 0", [])
+    ∷ scan (cells "0 0 0 0 9 9 9 9 0 0 0 5") (descriptor "1 0 0 3 4 1") (window "0 0 0 0") (sevens 1) (reply "7 2 0 0", sevens 1)
+    ∷ scan (cells "0 0 0 0 9 9 9 9 0 0 0 5") (descriptor "1 0 0 3 4 1") (window "0 0 0 0") (sevens 2) (reply "0 2 0 0", cells "0 2")
+    ∷ scan (cells "0 0 0 0 9 9 9 9 0 0 0 5") (descriptor "1 0 0 3 4 1") (window "1 1 1 1") [] (reply "0 0 0 0", [])
     -- slanted segments, listed ascending from the lower bound; the cell after keeps its value
     ∷ scan (cells "-2 2 2 6 -2 3 2 7 4 4 9 9") (descriptor "1 0 -1 3 4 1") (window "0 4 0 4") (sevens 3) (reply "0 2 0 0", cells "-1 1 7")
     -- the same segments from coordinate to coordinate, and the last position first; the coordinate limits themselves are no fault
@@ -151,7 +155,7 @@ scanRows =
     ∷ scan (cells "-536870912 0 536870912 0") (descriptor "3 0 0 1 4 1") (window "536870912 536870912 0 0") (sevens 1) (reply "0 1 0 0", cells "0")
     ∷ []
 
--- ---- the query's order: 9, 8, 7, 10; below, the index of one segment (0,2)-(6,2) with a word changed
+-- ---- the query's order: 9, 8, 10, 7; below, the index of one segment (0,2)-(6,2) with a word changed
 
 abbrev queryRows : List Row
 queryRows =
@@ -163,26 +167,31 @@ queryRows =
     ∷ query (cells "1 1 2 -1 0 2 6 2 0 0 0 1 0 0 0 0 0 0") (window "1 0 0 0") [] (reply "9 0 0 0", [])
     ∷ query (cells "1 1 1 1 0 2 6 2 0 0 0 1 0 0 0 0 0 0") (window "1 0 0 0") [] (reply "9 0 0 0", [])
     ∷ query (cells "1 1 1 0 0 2 6 2 0 0 0 1 0 0 0 0 0") (window "1 0 0 0") [] (reply "9 0 0 0", [])
-    -- 8 with too few cells; 7 with a spoiled position word
+    -- 8 with too few cells; 10 with too few cells
     ∷ query (cells "1 1 1 0 0 2 6 2 0 0 0 1 0 0 0 0 0 0") (window "1 0 0 0") [] (reply "8 0 0 0", [])
-    ∷ query (cells "1 1 1 0 0 2 6 2 1 0 0 1 0 0 0 0 0 0") (window "3 5 1 3") [] (reply "7 0 0 0", [])
-    -- 10: the position word; the first n cells are 0, the cell after keeps its value
-    ∷ query (cells "1 1 1 0 0 2 6 2 1 0 0 1 0 0 0 0 0 0") (window "3 5 1 3") (sevens 2) (reply "10 0 0 0", cells "0 7")
+    ∷ query (cells "1 1 1 0 0 2 6 2 1 0 0 1 0 0 0 0 0 0") (window "3 5 1 3") [] (reply "10 0 0 0", [])
+    -- 10: the position word; every cell keeps its value
+    ∷ query (cells "1 1 1 0 0 2 6 2 1 0 0 1 0 0 0 0 0 0") (window "3 5 1 3") (sevens 2) (reply "10 0 0 0", sevens 2)
     -- 10: s + ml + mr ≠ m; s < 1 though the sum fits; ml or mr negative though the sum fits
-    ∷ query (cells "1 1 1 0 0 2 6 2 0 0 0 2 0 0 0 0 0 0") (window "3 5 1 3") (sevens 2) (reply "10 0 0 0", cells "0 7")
-    ∷ query (cells "1 1 1 0 0 2 6 2 0 0 0 0 1 0 0 0 0 0") (window "3 5 1 3") (sevens 2) (reply "10 0 0 0", cells "0 7")
-    ∷ query (cells "1 1 1 0 0 2 6 2 0 0 0 1 -1 1 0 0 0 0") (window "3 5 1 3") (sevens 2) (reply "10 0 0 0", cells "0 7")
-    ∷ query (cells "1 1 1 0 0 2 6 2 0 0 0 1 1 -1 0 0 0 0") (window "3 5 1 3") (sevens 2) (reply "10 0 0 0", cells "0 7")
+    ∷ query (cells "1 1 1 0 0 2 6 2 0 0 0 2 0 0 0 0 0 0") (window "3 5 1 3") (sevens 2) (reply "10 0 0 0", sevens 2)
+    ∷ query (cells "1 1 1 0 0 2 6 2 0 0 0 0 1 0 0 0 0 0") (window "3 5 1 3") (sevens 2) (reply "10 0 0 0", sevens 2)
+    ∷ query (cells "1 1 1 0 0 2 6 2 0 0 0 1 -1 1 0 0 0 0") (window "3 5 1 3") (sevens 2) (reply "10 0 0 0", sevens 2)
+    ∷ query (cells "1 1 1 0 0 2 6 2 0 0 0 1 1 -1 0 0 0 0") (window "3 5 1 3") (sevens 2) (reply "10 0 0 0", sevens 2)
     -- 10: a number is due and n are listed: the centre is changed, so that the segment comes twice
-    ∷ query (cells "1 1 1 0 0 2 6 2 0 0 -5 1 0 0 0 0 0 0") (window "0 5 1 3") (sevens 2) (reply "10 0 0 0", cells "0 7")
+    ∷ query (cells "1 1 1 0 0 2 6 2 0 0 -5 1 0 0 0 0 0 0") (window "0 5 1 3") (sevens 2) (reply "10 0 0 0", sevens 2)
     -- a record's level is taken from its low end: a vertical and a horizontal whose other word is changed
     ∷ query (cells "1 1 0 1 4 0 9 5 0 0 0 1 0 0 0 0 0 0") (window "3 5 1 3") (sevens 1) (reply "0 1 4 0", cells "1")
     ∷ query (cells "1 1 1 0 0 2 6 9 0 0 0 1 0 0 0 0 0 0") (window "3 5 1 3") (sevens 1) (reply "0 1 4 0", cells "1")
     -- 10: a count that leaves more than the right size (slot 2 of three, 0 to the left, so 2 to a right side of one)
-    ∷ query (cells "3 1 2 1 0 2 6 2 4 0 4 5 9 9 9 9 1 0 2 0 1 0 1 0 2 0 0 0 0 1 2 0 0 0 9 1 1 0 2 0 2 0 0 1 0 0 0 0 0 0 0 1 0 0 1 0 1 0") (window "3 5 3 9") (sevens 3) (reply "10 0 0 0", zeros 3)
+    ∷ query (cells "3 1 2 1 0 2 6 2 4 0 4 5 9 9 9 9 1 0 2 0 1 0 1 0 2 0 0 0 0 1 2 0 0 0 9 1 1 0 2 0 2 0 0 1 0 0 0 0 0 0 0 1 0 0 1 0 1 0") (window "3 5 3 9") (sevens 3) (reply "10 0 0 0", sevens 3)
     -- a sound index, and one that goes on after W(n)
     ∷ query (cells "1 1 1 0 0 2 6 2 0 0 0 1 0 0 0 0 0 0") (window "3 5 1 3") (sevens 2) (reply "0 1 4 0", cells "1 7")
     ∷ query (cells "1 1 1 0 0 2 6 2 0 0 0 1 0 0 0 0 0 0 5 5") (window "3 5 1 3") (sevens 2) (reply "0 1 4 0", cells "1 7")
+    -- 7 exactly where the buffer is shorter than the numbers due, which it counts; visits are 0
+    ∷ query (cells "1 1 1 0 0 2 6 2 0 0 0 1 0 0 0 0 0 0") (window "3 5 1 3") [] (reply "7 1 0 0", [])
+    ∷ query (cells "1 1 1 0 0 2 6 2 0 0 0 1 0 0 0 0 0 0") (window "3 5 3 3") [] (reply "0 0 4 0", [])
+    ∷ query tiedWords (window "1 3 2 2") (sevens 3) (reply "7 4 0 0", sevens 3)
+    ∷ query tiedWords (window "1 3 2 2") (sevens 4) (reply "0 4 26 0", cells "10 12 13 14")
     -- with n = 0 there are no visits
     ∷ query (cells "0 1 0 0") (window "3 5 1 3") (sevens 1) (reply "0 0 0 0", sevens 1)
     -- ties: a band that begins and ends at a split; an edge at a far end; an edge at a centre; y beyond all; a point; a column; all
@@ -193,8 +202,8 @@ queryRows =
     ∷ query tiedWords (window "4 4 0 9") (sevens 9) (reply "0 7 24 0", cells "18 10 12 13 11 16 15 7 7")
     ∷ query tiedWords (window "0 8 0 8") (sevens 9) (reply "0 9 20 0", cells "14 18 10 12 13 11 16 17 15")
     -- 10: a count above its place; a count above the left size
-    ∷ query (cells "3 1 2 1 0 2 6 2 4 0 4 5 9 9 9 9 1 0 2 0 2 2 1 0 2 0 0 0 0 1 2 0 0 0 9 1 1 0 2 0 2 0 0 1 0 0 0 0 0 0 0 1 0 0 1 0 1 0") (window "3 5 1 3") (sevens 3) (reply "10 0 0 0", zeros 3)
-    ∷ query (set tiedWords 56 (pos 6)) (window "2 3 7 9") (sevens 9) (reply "10 0 0 0", zeros 9)
+    ∷ query (cells "3 1 2 1 0 2 6 2 4 0 4 5 9 9 9 9 1 0 2 0 2 2 1 0 2 0 0 0 0 1 2 0 0 0 9 1 1 0 2 0 2 0 0 1 0 0 0 0 0 0 0 1 0 0 1 0 1 0") (window "3 5 1 3") (sevens 3) (reply "10 0 0 0", sevens 3)
+    ∷ query (set tiedWords 56 (pos 6)) (window "2 3 7 9") (sevens 9) (reply "10 0 0 0", sevens 9)
     ∷ []
 
 -- ---- C hosts: 3, 4, 12, 11, there without a place; a length below 0 holds no cell; 8, 5

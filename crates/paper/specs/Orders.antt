@@ -1,6 +1,7 @@
 -- Document 01, "Answer numbers": answers 9 and 10, and the orders. An order is a list, and stands here only.
 use mathlib.Core.Bool.{Bool, true, false, not, _||_}
 use mathlib.Core.List.{List, [], _∷_}
+use Prim.Native.Nat.{ℕ}
 use lib.Dec.{ltb}
 use lib.IntN.{ℤ, pos, _+ℤ_}
 use lib.Signed.{ltZ}
@@ -8,7 +9,7 @@ use lib.ListN.{length}
 use Rattle.lists.specs.Plain.{same}
 use Rattle.paper.specs.Limits.{extentFits, lowerFits}
 use Rattle.paper.specs.Descriptor.{sizeOf, segmentsOf}
-use Rattle.paper.specs.Answers.{Answer, answer, badKind, badLower, badExtent, badStrides, badCells, badCoordinate, badSlant, badBuffer, badWindow, badPlace}
+use Rattle.paper.specs.Answers.{Answer, answer, positionsOf, badKind, badLower, badExtent, badStrides, badCells, badCoordinate, badSlant, badBuffer, badRoom, badWindow, badPlace}
 use Rattle.paper.specs.Words.{W}
 use Rattle.paper.specs.Walk.{word, extentIn, sizeIn, Walked, walked, stopped, walkOf}
 use Rattle.paper.specs.declared.Descriptor.{Descriptor}
@@ -32,7 +33,12 @@ isStopped stopped = true
 abbrev pub badWalk : Walked → Answer
 badWalk r = answer 10 (isStopped r)
 
--- ---- the orders. Request E1: 12 stands directly after 4 in each
+-- how many numbers a walk that has ended makes due
+abbrev pub dueBy : Walked → ℕ
+dueBy (walked ps v) = length ps
+dueBy stopped = 0
+
+-- ---- the orders. Request E1: 12 stands directly after 4. Request E2: in scan and query 7 comes last
 
 -- builder: 1, 2, 3, 4, 12, 7, 5, 6
 abbrev pub builderOrder : List ℤ → Descriptor → List ℤ → List Answer
@@ -47,23 +53,23 @@ builderOrder table d index =
     ∷ badSlant (segmentsOf d table)
     ∷ []
 
--- scan: 1, 2, 3, 4, 12, 8, 7, 5
-abbrev pub scanOrder : List ℤ → Descriptor → Window → List ℤ → List Answer
-scanOrder table d w numbers =
+-- scan, by a test of meeting: 1, 2, 3, 4, 12, 8, 5, 7
+abbrev pub scanOrder : (Segment → Bool) → List ℤ → Descriptor → Window → List ℤ → List Answer
+scanOrder meets table d w numbers =
     badKind (d .kind)
     ∷ badLower (d .kind) (d .lower)
     ∷ badExtent (d .extent)
     ∷ badStrides d
     ∷ badCells (pos (length table)) d
     ∷ badWindow w
-    ∷ badBuffer (sizeOf d) (length numbers)
     ∷ badCoordinate (segmentsOf d table)
+    ∷ badRoom (length (positionsOf meets (segmentsOf d table))) (length numbers)
     ∷ []
 
--- query: 9, 8, 7, 10
+-- query: 9, 8, 10, 7
 abbrev pub queryOrder : List ℤ → Window → List ℤ → List Answer
 queryOrder ws w numbers =
-    badIndex ws ∷ badWindow w ∷ badBuffer (sizeIn ws) (length numbers) ∷ badWalk (walkOf ws w) ∷ []
+    badIndex ws ∷ badWindow w ∷ badWalk (walkOf ws w) ∷ badRoom (dueBy (walkOf ws w)) (length numbers) ∷ []
 
 -- C hosts. The cell of a position and coordinate: 3, 4, 12, 11
 abbrev pub cellOrder : ℤ → Descriptor → ℤ → ℤ → List Answer

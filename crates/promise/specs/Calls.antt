@@ -4,14 +4,14 @@
 use mathlib.Core.Path.{_≡_, refl, sym, ap, ap₂, _∙_, subst}
 use mathlib.Core.List.{List, [], _∷_, map}
 use mathlib.Core.Bool.{Bool, true, false, not, _||_, cond}
-use Prim.Native.Nat.{ℕ, zero, _+_, _≤_}
+use Prim.Native.Nat.{ℕ, zero, _+_, _≤_, _<_}
 use native.Mathlib.Omega.{arith}
 use lib.ListN.{length, drop, length-map, length-append}
 use lib.Seq.{take-at}
 use lib.IntN.{ℤ, pos, negsuc, _+ℤ_}
 use lib.Signed.{ltZ}
 use lib.Dec.{T, not-T, eqb, eqb→eq, eqb-refl, ltb, leb, le→leb, leb→le}
-use borrow.Author.Tests.{le-ltb}
+use borrow.Author.Tests.{le-ltb, lt-ltb}
 use Rattle.whole.specs.Whole.{of, #, _⊕_, whole}
 use Rattle.lists.specs.Plain.{same, toNat, count, positions}
 use Rattle.lists.specs.Tests.{agree, is-true, snd-of, holds, clash, or-false}
@@ -21,11 +21,11 @@ use Rattle.lists.specs.Counting.{count-map, count-none, each-counted}
 use Rattle.lists.specs.Positions.{positions-length}
 use Rattle.paper.specs.Descriptor.{outsideCells, sizeOf, firstNumber, numberOf, segmentOf, segmentsOf}
 use Rattle.paper.specs.Limits.{mostSegments, extentFits, lowerFits}
-use Rattle.paper.specs.Answers.{Answer, answerAt, answerAtCell, positionsOf, farOff, slanted, badKind, badLower, badExtent, badStrides, badCells, badBuffer, badCoordinate, badSlant, badWindow, judged, refused, done}
+use Rattle.paper.specs.Answers.{Answer, answerAt, answerAtCell, positionsOf, farOff, slanted, badKind, badLower, badExtent, badStrides, badCells, badBuffer, badRoom, badCoordinate, badSlant, badWindow, judged, refused, done}
 use Rattle.paper.specs.Words.{W, lowFirst, horizontals, verticals, indexWords}
 use Rattle.paper.specs.Walk.{word, extentIn, sizeIn, Walked, walked, walkOf}
 use Rattle.paper.specs.Orders.{badIndex, isStopped, builderOrder, queryOrder}
-use Rattle.paper.specs.Results.{Result, over, afterRefusal, numbersOf, built, listing, queried}
+use Rattle.paper.specs.Results.{Result, over, numbersOf, built, listing, queried}
 use Rattle.paper.specs.Demands.{ListsOnce, ListsNumbers, listedBy, Straight, IndexOf}
 use Rattle.paper.specs.declared.Descriptor.{Descriptor}
 use Rattle.paper.specs.declared.Segment.{Segment}
@@ -204,10 +204,16 @@ module _ (first : ℤ) (segments : List Segment) (ws : List ℤ) (index : IndexO
       counts-add
       (rw size-is (le-ltb (length ws) (W n) words-enough))
 
-  module _ (w : Window) (numbers : List ℤ) (good : badWindow w .given ≡ false) (room : n ≤ length numbers) where
-    pub query-done : (ps : List ℕ) (v : ℕ) → walkOf ws w ≡ walked ps v → queried ws w numbers ≡ (done (length ps) v, over (numbersOf first ps) numbers)
+  module _ (w : Window) (numbers : List ℤ) (good : badWindow w .given ≡ false) (ps : List ℕ) (v : ℕ) (e : walkOf ws w ≡ walked ps v) where
+    -- where the numbers fit
+    pub query-done : length ps ≤ length numbers → queried ws w numbers ≡ (done (length ps) v, over (numbersOf first ps) numbers)
     unfolding queried listing
-    query-done ps v e =
-        not-judged (queryOrder ws w numbers) (λ x. (refused x, afterRefusal x (sizeIn ws) numbers)) (listing (word ws 1) numbers (walkOf ws w))
-        (All.also index-sound (All.also good (All.also (rw size-is (le-ltb (length numbers) n room)) (All.also (ap isStopped e) All.none))))
+    query-done room =
+        not-judged (queryOrder ws w numbers) (λ x. (refused x, numbers)) (listing (word ws 1) numbers (walkOf ws w))
+        (All.also index-sound (All.also good (All.also (ap isStopped e) (All.also (rw e (le-ltb (length numbers) (length ps) room)) All.none))))
         ∙ ap₂ (λ (z : ℤ) (r : Walked). listing z numbers r) (first-word first segments ws index) e
+
+    -- where they do not
+    pub query-short : length numbers < length ps → queried ws w numbers ≡ (refused (badRoom (length ps) (length numbers)), numbers)
+    unfolding queried listing
+    query-short h = rw (index-sound, good, e, lt-ltb (length numbers) (length ps) h) refl

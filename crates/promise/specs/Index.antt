@@ -29,7 +29,7 @@ use Rattle.promise.specs.Events.{isDue, visitsOf, dues, dues-count}
 use Rattle.promise.specs.Nodes.{levels-length}
 use Rattle.promise.specs.Block.{block-length}
 use Rattle.promise.specs.Groups.{Rises, low-rises, meets-low, isAcross, isAlong, inGroup, one-group, group-meets, meets-group}
-use Rattle.promise.specs.Whole.{Placed, listed, insideEvents, acrossEvents, alongEvents, whole, inside-lists, across-lists, along-lists, whole-visits, walk-ends, none-ends}
+use Rattle.promise.specs.Whole.{Placed, listed, insideEvents, acrossEvents, alongEvents, whole, inside-lists, across-lists, along-lists, whole-few, whole-visits, walk-ends, none-ends}
 
 -- ---- segments and their records
 at-low : (segments : List Segment) (p : ℕ) → at (map lowFirst segments) p ≡ lowFirst (at segments p)
@@ -196,6 +196,7 @@ pub record Walks (segments : List Segment) (w : Window) (r : Walked) : Type 0 wh
   pub ends : r ≡ walked listed visits
   pub groups : InGroups segments w listed
   pub few : visits ≤ mostVisits (length segments) (length listed)
+  pub within : length listed ≤ length segments
 
 zero-or : {Z : Type 0} (n : ℕ) → (n ≡ 0 → Z) → (1 ≤ n → Z) → Z
 zero-or zero f g = f refl
@@ -222,6 +223,7 @@ module _ (first : ℤ) (segments : List Segment) (w : Window) (ws : List ℤ) (i
     ends = none-ends ws w (placed first segments ws index .size ∙ e);
     groups = record { inside = []; across = []; along = []; order = refl; insides = empty (lowEndInside w); acrosses = empty (isAcross w); alongs = empty (isAlong w) };
     few = omega arith;
+    within = omega arith;
   }
     where
       empty : (q : Segment → Bool) → Group segments q []
@@ -246,6 +248,7 @@ module _ (first : ℤ) (segments : List Segment) (w : Window) (ws : List ℤ) (i
           alongs = group (isAlong w) _ (λ p. due (alongEvents rs w rise) p ∙ along-lists rs w rise (eqb p));
         };
         few = subst (λ (k : ℕ). visitsOf (whole rs w rise) ≤ mostVisits k (length (listed rs w rise))) same-size (whole-visits rs w rise h);
+        within = subst (λ (k : ℕ). length (listed rs w rise) ≤ k) same-size (whole-few rs w rise h);
       }
 
   pub index-walks : Walks segments w (walkOf ws w)

@@ -177,6 +177,9 @@ module _ (rs : List Segment) (w : Window) (rise : (p : ℕ) → Rises (at rs p))
           positions-length n,
         )
 
+    pub whole-few : length listed ≤ n
+    whole-few = omega (arith, at-most, ap (λ (l : List ℕ). length l) listed-is, dues-length whole)
+
     pub whole-visits : visitsOf whole ≤ mostVisits n (length listed)
     whole-visits =
         omega (

@@ -11,11 +11,11 @@ use mir.Val.{SFits, toZ, ofZ}
 use Rattle.whole.specs.Whole.{Ex, within, _⊕_}
 use Rattle.whole.specs.Fits.{between, fits, asks, plain}
 use Rattle.lists.specs.Plain.{filter, positions}
-use Rattle.lists.specs.Choosing.{filter-zero, filter-next, chosen-length, over-step, over-length}
+use Rattle.lists.specs.Choosing.{filter-zero, filter-next, chosen-length, filled, filled-none, filled-more}
 use Rattle.paper.specs.Descriptor.{firstNumber, numberOf, sizeOf, segmentOf, segmentsOf}
 use Rattle.paper.specs.Corners.{weighed}
 use Rattle.paper.specs.Answers.{badLower, badWindow, farOff, positionsOf}
-use Rattle.paper.specs.Results.{over, numbersOf}
+use Rattle.paper.specs.Results.{numbersOf}
 use Rattle.paper.specs.declared.Descriptor.{Descriptor}
 use Rattle.paper.specs.declared.Window.{Window}
 use Rattle.table.specs.Cells.{Held}
@@ -59,8 +59,8 @@ module _ (table : List ℤ) (d : Descriptor) (w : Window) where
   pub none-count : 0 ≡ length (chosen 0)
   none-count = ap length (sym (filter-zero hit))
 
-  pub none-cells : (cells : List ℤ) → cells ≡ over (listed 0) cells
-  none-cells cells = ap (λ ps. over (numbersOf (firstNumber (d .kind) (d .lower)) ps) cells) (sym (filter-zero hit))
+  pub none-cells : (cells : List ℤ) → cells ≡ filled (listed 0) cells
+  none-cells cells = sym (ap (λ ps. filled (numbersOf (firstNumber (d .kind) (d .lower)) ps) cells) (filter-zero hit) ∙ filled-none cells)
 
   -- one turn: position i is kept where it is hit
   pub count-more : (i k : ℕ) {b : Bool} → k ≡ length (chosen i) → b ≡ weighed w (segmentOf d table i) → cond b (k + 1) k ≡ length (chosen (i + 1))
@@ -70,19 +70,16 @@ module _ (table : List ℤ) (d : Descriptor) (w : Window) where
       go true = sym (length-append (chosen i) (i ∷ []))
       go false = ap length (sym (append-nil (chosen i)))
 
-  pub cells-more : (i k : ℕ) (cells : List ℤ) {b : Bool} {now : List ℤ} {z : ℤ} → k ≡ length (chosen i) → i < length cells → b ≡ weighed w (segmentOf d table i)
-      → now ≡ over (listed i) cells → z ≡ numberOf (firstNumber (d .kind) (d .lower)) i → cond b (set now k z) now ≡ over (listed (i + 1)) cells
-  cells-more i k cells {b} {now} {z} e l f g h = rw (filter-next hit i, ← f, g, h, e ∙ sym (length-listed i)) (go b)
+  pub cells-more : (i k : ℕ) (cells : List ℤ) {b : Bool} {now : List ℤ} {z : ℤ} → k ≡ length (chosen i) → b ≡ weighed w (segmentOf d table i)
+      → now ≡ filled (listed i) cells → z ≡ numberOf (firstNumber (d .kind) (d .lower)) i → cond b (set now k z) now ≡ filled (listed (i + 1)) cells
+  cells-more i k cells {b} {now} {z} e f g h = rw (filter-next hit i, ← f, g, h, e ∙ sym (length-listed i)) (go b)
     where
-      go : (b : Bool) → cond b (set (over (listed i) cells) (length (listed i)) (numberOf (firstNumber (d .kind) (d .lower)) i)) (over (listed i) cells)
-          ≡ over (map (numberOf (firstNumber (d .kind) (d .lower))) (chosen i ++ cond b (i ∷ []) [])) cells
+      go : (b : Bool) → cond b (set (filled (listed i) cells) (length (listed i)) (numberOf (firstNumber (d .kind) (d .lower)) i)) (filled (listed i) cells)
+          ≡ filled (map (numberOf (firstNumber (d .kind) (d .lower))) (chosen i ++ cond b (i ∷ []) [])) cells
       go true =
-          over-step (listed i) cells (numberOf (firstNumber (d .kind) (d .lower)) i) (omega (arith, length-listed i, length-chosen i))
-          ∙ ap (λ l. over l cells) (sym (map-append (numberOf (firstNumber (d .kind) (d .lower))) (chosen i) (i ∷ [])))
-      go false = ap (λ l. over (numbersOf (firstNumber (d .kind) (d .lower)) l) cells) (sym (append-nil (chosen i)))
-
-  pub over-size : (i : ℕ) (cells : List ℤ) → i ≤ length cells → length (over (listed i) cells) ≡ length cells
-  over-size i cells h = over-length (listed i) cells (omega (arith, length-listed i, length-chosen i))
+          filled-more (listed i) (numberOf (firstNumber (d .kind) (d .lower)) i) cells
+          ∙ ap (λ l. filled l cells) (sym (map-append (numberOf (firstNumber (d .kind) (d .lower))) (chosen i) (i ∷ [])))
+      go false = ap (λ l. filled (numbersOf (firstNumber (d .kind) (d .lower)) l) cells) (sym (append-nil (chosen i)))
 
 -- ---- the number of position i; m is the first number and k is i as the code has them
 module _ (d : Descriptor) (i : ℕ) (l : i < 4096) (h : badLower (d .kind) (d .lower) .given ≡ false) {m k : ℤ} (e : m ≡ firstNumber (d .kind) (d .lower)) (f : k ≡ pos i) where

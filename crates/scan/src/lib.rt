@@ -6,7 +6,7 @@ ghost use Prim.Native.Nat.{_+_, _<_, _≤_};
 ghost use lib.ListN.{length, set};
 ghost use Rattle.paper.specs.Descriptor.{firstNumber, numberOf, sizeOf};
 ghost use Rattle.paper.specs.Answers.{badLower};
-ghost use Rattle.paper.specs.Results.{over};
+ghost use Rattle.lists.specs.Choosing.{filled};
 ghost use Rattle.scan.specs.Listing.{Ready, metPositions, metNumbers};
 use paper::Descriptor;
 use paper::Window;
@@ -19,22 +19,24 @@ fn number(descriptor: Descriptor, i: usize) -> i32
     whole::narrow(table::first_number(descriptor) + whole::count(i))
 }
 
-// z into cell k where it is a hit; the next free cell.
+// z into cell k where it is a hit and there is such a cell; the next one.
 fn keep(numbers: &mut [i32], k: usize, z: i32, hit: bool) -> usize
-    requires { ⌜ k < length (now numbers) ⌝ }
+    requires { ⌜ k < 4096 ⌝ }
     ensures { λ r. ⌜ (r ≡ cond hit (k + 1) k) × (now (numbers .exit) ≡ cond hit (set (now (numbers .entry)) k z) (now (numbers .entry))) ⌝ }
 {
     if hit {
-        numbers[k] = z;
+        if k < numbers.len() {
+            numbers[k] = z;
+        }
         return k + 1;
     }
     k
 }
 
-// The numbers of the segments that meet the window into the first cells, which the others follow unchanged; how many.
+// The numbers of the segments that meet the window into the first cells, as far as there are cells; those after keep their values. How many they are.
 pub fn list(table: &[i32], descriptor: Descriptor, window: Window, numbers: &mut [i32]) -> usize
-    requires { ⌜ Ready (now table) descriptor window × (sizeOf descriptor ≤ length (now numbers)) ⌝ }
-    ensures { λ r. ⌜ (r ≡ length (metPositions (now (table .entry)) descriptor window)) × (r ≤ 4096) × (now (numbers .exit) ≡ over (metNumbers (now (table .entry)) descriptor window) (now (numbers .entry))) ⌝ }
+    requires { ⌜ Ready (now table) descriptor window ⌝ }
+    ensures { λ r. ⌜ (r ≡ length (metPositions (now (table .entry)) descriptor window)) × (r ≤ sizeOf descriptor) × (now (numbers .exit) ≡ filled (metNumbers (now (table .entry)) descriptor window) (now (numbers .entry))) ⌝ }
 {
     let n = table::count(descriptor);
     let mut k = 0;
@@ -46,4 +48,13 @@ pub fn list(table: &[i32], descriptor: Descriptor, window: Window, numbers: &mut
         i += 1;
     }
     k
+}
+
+// How many numbers are due.
+pub fn due(table: &[i32], descriptor: Descriptor, window: Window) -> usize
+    requires { ⌜ Ready (now table) descriptor window ⌝ }
+    ensures { λ r. ⌜ (r ≡ length (metPositions (now (table .entry)) descriptor window)) × (r ≤ sizeOf descriptor) ⌝ }
+{
+    let mut aside = [0i32; 1];
+    list(table, descriptor, window, &mut aside)
 }

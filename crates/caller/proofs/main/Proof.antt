@@ -51,8 +51,9 @@ expect-requires c κs =
     let b = e .before .before .before .before .before .before in
     let n = zero (b .build .result .number) (record { sfits = e .before .struct-told2 .given .0 .1 }) (e .if1 .left) in
     let i = b .build .ensures .1 n in
+    let p = q .query .ensures .1 _ _ i (sym (q .before .before .before .before .bad-window .ensures) ∙ q .before .before .before .if2 .left) in
     ap (λ (z : ℤ). leZ (toZ w64 (ofZ w64 z)) (pos 0) && leZ (pos 0) (toZ w64 (ofZ w64 z)))
-    (q .query .ensures .1 _ _ i (sym (q .before .before .before .before .bad-window .ensures) ∙ q .before .before .before .if2 .left) (omega (arith, i .accepted .size)) .isDone)
+    (p .fits (omega (arith, p .dueFew, i .accepted .size)) .isDone)
 
 returns-3 : tie.Need-returns-3
 returns-3 c = search needs

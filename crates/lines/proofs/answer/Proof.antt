@@ -6,6 +6,7 @@ use native.Mathlib.Omega.{arith}
 use lib.IntN.{pos}
 use lib.ListN.{length, take, drop, replicate}
 use lib.Seq.{length-take-le, take-at}
+use Rattle.paper.specs.Words.{W}
 use Rattle.paper.specs.Results.{queried}
 use Rattle.paper.specs.Lines.{printed}
 use Rattle.texts.specs.Written.{Written}
@@ -17,6 +18,9 @@ use Rattle.lines.proofs.answer.Tie as tie
 -- the index has the words, and the number buffer the cells
 words-fit : (c : tie.After-words) → c .words .result ≤ length (c .before .before .args .index .now)
 words-fit c = let s = c .before .before in omega (arith, s .pre .1, c .words .ensures .0, most-words (s .args .t .size) (s .pre .0))
+
+words-lent : (c : tie.After-words) → length (take (c .words .result) (c .before .before .args .index .now)) ≡ W (c .before .before .args .t .size)
+words-lent c = length-take-le (c .words .result) (c .before .before .args .index .now) (words-fit c) ∙ c .words .ensures .0
 
 cells-fit : (s : tie.Start) → length (take (s .args .t .size) (s .args .numbers .now)) ≡ s .args .t .size
 cells-fit s = length-take-le (s .args .t .size) (s .args .numbers .now) (omega (arith, s .pre .0, s .pre .2))
@@ -70,7 +74,7 @@ returns c =
       subst (λ t. Written t (a .at) (a .out .now) (c .before .before .put-answer .result) (c .before .before .put-answer .last .0))
           (ap (λ l. printed (q .query .result, l)) (lent-again q)
           ∙ ap printed (q .query .ensures .0)
-          ∙ printed-over (take (q .before .before .before .words .result) (a .index .now)) (a .w) (a .t .size) (take (a .t .size) (a .numbers .now)) (cells-fit s)
+          ∙ printed-over (take (q .before .before .before .words .result) (a .index .now)) (a .w) (a .t .size) (words-lent (q .before .before .before)) (take (a .t .size) (a .numbers .now)) (cells-fit s)
           ∙ ap (λ n. printed (queried (take n (a .index .now)) (a .w) (replicate (a .t .size) (pos 0)))) (q .before .before .before .words .ensures .0))
           (c .before .before .put-answer .ensures .1),
     )

@@ -1,0 +1,33 @@
+// The numbers of a walk, from where it listed them into the cells lent.
+ghost use mathlib.Core.Path.{_≡_};
+ghost use Prim.Native.Nat.{_≤_};
+ghost use lib.ListN.{length, take};
+ghost use Rattle.lists.specs.Choosing.{filled};
+ghost use Rattle.paper.specs.Results.{over, numbersOf};
+ghost use Rattle.paper.specs.Walk.{word, walkOf};
+ghost use Rattle.marks.specs.Querying.{listedIn, Due};
+use paper::Window;
+
+// The first n cells of `from` into the first of `to`.
+fn copy(from: &[i32], to: &mut [i32], n: usize)
+    requires { ⌜ (n ≤ length (now from)) × (n ≤ length (now to)) ⌝ }
+    ensures { λ _. ⌜ now (to .exit) ≡ filled (take n (now (from .entry))) (now (to .entry)) ⌝ }
+{
+    let mut i = 0;
+    while i < n {
+        to[i] = from[i];
+        i += 1;
+    }
+}
+
+// The `due` numbers of a walk into the first cells: from the room that it was walked into where that holds them all, else by a second walk.
+pub fn write(words: &[i32], window: Window, room: &[i32], numbers: &mut [i32], due: usize)
+    requires { ⌜ Due (now words) window (now room) due × (due ≤ length (now numbers)) ⌝ }
+    ensures { λ _. ⌜ now (numbers .exit) ≡ over (numbersOf (word (now (words .entry)) 1) (listedIn (walkOf (now (words .entry)) window))) (now (numbers .entry)) ⌝ }
+{
+    if due <= room.len() {
+        copy(room, numbers, due);
+        return;
+    }
+    walk::walk(words, window, numbers);
+}
