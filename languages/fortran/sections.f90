@@ -71,8 +71,10 @@ program sections
   call scan_pointer('lower bound', seen)
   allocate (too_many(4, 4097), source=0)
   call scan_allocatable('4,097 segments', too_many)
-  reply = kalinosz_scan_shape(plate, 25_k, 45_k, 0_k, 9_k, numbers(:5))
-  print '(a, i0)', 'five number cells: ', reply%number
+  reply = kalinosz_scan_shape(plate, 25_k, 45_k, 0_k, 9_k, numbers(:2))
+  print '(a, i0, a, i0)', 'two number cells: ', reply%number, ', due: ', reply%count
+  reply = kalinosz_scan_shape(plate, 25_k, 45_k, 0_k, 9_k, numbers(:int(reply%count)))
+  print '(a, i0)', 'as many as were due: ', reply%number
 
   ! A buffer with a step is packed and unpacked by the compiler: the cells between stay.
   spaced = -1

@@ -79,7 +79,7 @@ pub fn query(words: &[i32], window: Window, numbers: &mut [i32]) -> Reply
     if meeting::bad_window(window) {
         return refusals::refusal(8, 0, 0);
     }
-    let mut room = [0i32; 1024];
+    let mut room = [0i32; 2048];
     let tally = walk::walk(words, window, &mut room);
     if 0 < tally.stopped {
         return refusals::refusal(10, 0, 0);
