@@ -14,7 +14,7 @@ use Rattle.paper.specs.Demands.{IndexOf}
 use Rattle.paper.specs.declared.Descriptor.{Descriptor}
 use Rattle.paper.specs.declared.Reply.{Reply}
 use Rattle.promise.specs.Demands.{build-promise}
-use Rattle.marks.specs.Orders.{refusalAt, refuse, firstGiven, tableOrder, table-given, table-left, refuses, passes}
+use Rattle.refusals.specs.Orders.{refusalAt, refuse, firstGiven, tableOrder, table-given, table-left, refuses, passes}
 
 module _ (table : List ℤ) (d : Descriptor) (index : List ℤ) where
   -- the reply and the words of a builder that is done

@@ -20,7 +20,7 @@ use Rattle.promise.specs.Demands.{query-promise}
 use Rattle.paper.specs.declared.Window.{Window}
 use Rattle.tally.specs.Fold.{Given}
 use Rattle.tally.specs.declared.Tally.{Tally}
-use Rattle.marks.specs.Orders.{refusalAt}
+use Rattle.refusals.specs.Orders.{refusalAt}
 
 -- the positions that a walk which has ended lists
 abbrev pub listedIn : Walked → List ℕ

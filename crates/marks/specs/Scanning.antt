@@ -25,7 +25,7 @@ use Rattle.meeting.specs.Determined.{tested, decided, tested-is}
 use Rattle.scan.specs.Listing.{metPositions, metNumbers}
 use Rattle.scan.specs.Promise.{lists-numbers, ascending}
 use Rattle.promise.specs.Calls.{table-numbered, far-numbered}
-use Rattle.marks.specs.Orders.{refusalAt, refuse, firstGiven, tableOrder, table-given, table-left, refuses, passes, zero-done}
+use Rattle.refusals.specs.Orders.{refusalAt, refuse, firstGiven, tableOrder, table-given, table-left, refuses, passes, zero-done}
 
 -- ---- demand 2, of any scan that `paper` allows
 module _ (table : List ℤ) (d : Descriptor) (w : Window) (numbers : List ℤ) where

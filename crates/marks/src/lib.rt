@@ -9,7 +9,6 @@ use paper::Reply;
 use paper::Window;
 
 mod listing;
-mod refusals;
 
 // The numbers of the segments that meet a window, ascending, into the first cells; order 1, 2, 3, 4, 12, 8, 5, 7.
 // Answer 0 promises that the number of each meeting segment is listed once, that nothing else is, and that the numbers ascend.
@@ -31,7 +30,7 @@ pub fn scan(table: &[i32], descriptor: Descriptor, window: Window, numbers: &mut
         return refusals::refusal(5, 0, far);
     }
     let lent = numbers.len();
-    let due = refusals::due(table, descriptor, window, lent, n);
+    let due = listing::due(table, descriptor, window, lent, n);
     if lent < due {
         return refusals::refusal(7, due, 0);
     }

@@ -1,12 +1,27 @@
-// The numbers of a walk, from where it listed them into the cells lent.
+// How many numbers a scan makes due; and the numbers of a walk, from where it listed them into the cells lent.
 ghost use mathlib.Core.Path.{_≡_};
-ghost use Prim.Native.Nat.{_≤_};
+ghost use Prim.Native.Nat.{_<_, _≤_};
+ghost use lib.Dec.{ltb};
 ghost use lib.ListN.{length, take};
 ghost use Rattle.lists.specs.Choosing.{filled};
+ghost use Rattle.paper.specs.Descriptor.{sizeOf};
 ghost use Rattle.paper.specs.Results.{over, numbersOf};
 ghost use Rattle.paper.specs.Walk.{word, walkOf};
+ghost use Rattle.scan.specs.Listing.{Ready, metPositions};
 ghost use Rattle.marks.specs.Querying.{listedIn, Due};
+use paper::Descriptor;
 use paper::Window;
+
+// How many numbers a scan makes due; where n cells are lent, which hold any, it is enough to say 0.
+pub fn due(table: &[i32], descriptor: Descriptor, window: Window, lent: usize, n: usize) -> usize
+    requires { ⌜ Ready (now table) descriptor window × (n ≡ sizeOf descriptor) ⌝ }
+    ensures { λ r. ⌜ (r ≤ 4096) × (ltb lent r ≡ ltb lent (length (metPositions (now (table .entry)) descriptor window))) × (lent < r → r ≡ length (metPositions (now (table .entry)) descriptor window)) ⌝ }
+{
+    if n <= lent {
+        return 0;
+    }
+    scan::due(table, descriptor, window)
+}
 
 // The first n cells of `from` into the first of `to`.
 fn copy(from: &[i32], to: &mut [i32], n: usize)

@@ -12,7 +12,7 @@ use Rattle.paper.specs.Descriptor.{sizeOf, segmentsOf}
 use Rattle.paper.specs.Answers.{badCoordinate, badSlant, done}
 use Rattle.paper.specs.Words.{W}
 use Rattle.table.specs.Cells.{Held}
-use Rattle.marks.specs.Orders.{firstGiven, tableOrder, table-pass, found-at, found-none}
+use Rattle.refusals.specs.Orders.{firstGiven, tableOrder, table-pass, found-at, found-none}
 use Rattle.marks.specs.Building.{by-table, by-room, by-far, by-slant, by-building}
 use Rattle.marks.proofs.build.Statement.{statement}
 use Rattle.marks.proofs.build.Tie as tie

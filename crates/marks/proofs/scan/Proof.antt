@@ -9,7 +9,7 @@ use Rattle.paper.specs.Descriptor.{segmentsOf}
 use Rattle.paper.specs.Answers.{badWindow, badCoordinate, refused, done}
 use Rattle.scan.specs.Listing.{Ready}
 use Rattle.table.specs.Cells.{Held}
-use Rattle.marks.specs.Orders.{refusalAt, firstGiven, tableOrder, table-pass, found-at, found-none}
+use Rattle.refusals.specs.Orders.{refusalAt, firstGiven, tableOrder, table-pass, found-at, found-none}
 use Rattle.marks.specs.Scanning.{by-table, by-window, by-room, by-far, by-listing}
 use borrow.Author.Needs.{needs}
 use Rattle.marks.proofs.scan.Statement.{statement}

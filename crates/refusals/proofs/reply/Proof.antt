@@ -3,8 +3,8 @@ use mathlib.Core.Path.{refl, _∙_}
 use mir.Syntax.{w64}
 use mir.ValLaws.{toZ-ofZ}
 use borrow.Author.Needs.{needs}
-use Rattle.marks.proofs.refusals.reply.Statement.{statement}
-use Rattle.marks.proofs.refusals.reply.Tie as tie
+use Rattle.refusals.proofs.reply.Statement.{statement}
+use Rattle.refusals.proofs.reply.Tie as tie
 
 count-requires : tie.Need-count-requires
 count-requires c κs = search needs

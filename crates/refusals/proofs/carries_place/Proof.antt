@@ -1,7 +1,7 @@
 -- `refusals::carries_place` meets its contract. Assumes nothing.
 use borrow.Author.Tests.{ne-eqb}
-use Rattle.marks.proofs.refusals.carries_place.Statement.{statement}
-use Rattle.marks.proofs.refusals.carries_place.Tie as tie
+use Rattle.refusals.proofs.carries_place.Statement.{statement}
+use Rattle.refusals.proofs.carries_place.Tie as tie
 
 returns : tie.Need-returns
 returns c = rw (c .match .keys1)

@@ -11,8 +11,8 @@ use Rattle.paper.specs.Answers.{badKind, badLower, badExtent, badStrides, badCe
 use Rattle.promise.specs.Calls.{number-at-cell}
 use Rattle.paper.specs.Descriptor.{outsideCells}
 use borrow.Author.Needs.{needs}
-use Rattle.marks.proofs.refusals.of_table.Statement.{statement}
-use Rattle.marks.proofs.refusals.of_table.Tie as tie
+use Rattle.refusals.proofs.of_table.Statement.{statement}
+use Rattle.refusals.proofs.of_table.Tie as tie
 
 -- what each test says of the table
 kind : (c : tie.Else1) → badKind (c .before .before .args .descriptor .kind) .given ≡ false

@@ -4,8 +4,8 @@ use mathlib.Core.Bool.{Bool, true, false, cond}
 use Prim.Native.Nat.{ℕ, _<_}
 use native.Mathlib.Omega.{arith}
 use borrow.Author.Needs.{needs}
-use Rattle.marks.proofs.refusals.refusal.Statement.{statement}
-use Rattle.marks.proofs.refusals.refusal.Tie as tie
+use Rattle.refusals.proofs.refusal.Statement.{statement}
+use Rattle.refusals.proofs.refusal.Tie as tie
 
 carries-count-requires : tie.Need-carries-count-requires
 carries-count-requires c κs = search needs

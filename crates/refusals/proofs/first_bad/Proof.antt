@@ -10,9 +10,9 @@ use Rattle.paper.specs.Descriptor.{segmentsOf}
 use Rattle.paper.specs.declared.Segment.{Segment}
 use Rattle.paper.specs.Answers.{badCoordinate, badSlant}
 use Rattle.table.specs.Cells.{foundAt}
-use Rattle.marks.specs.Orders.{badSegment}
-use Rattle.marks.proofs.refusals.first_bad.Statement.{statement}
-use Rattle.marks.proofs.refusals.first_bad.Tie as tie
+use Rattle.refusals.specs.Orders.{badSegment}
+use Rattle.refusals.proofs.first_bad.Statement.{statement}
+use Rattle.refusals.proofs.first_bad.Tie as tie
 
 five : (number n r : ℕ) (segments : List Segment) → eqb number 5 ≡ true → badCoordinate segments ≡ foundAt 5 n r → badSegment number segments ≡ foundAt (cond (eqb number 5) 5 6) n r
 five number n r segments e h = subst (λ b. cond b (badCoordinate segments) (badSlant segments) ≡ foundAt (cond b 5 6) n r) (sym e) h

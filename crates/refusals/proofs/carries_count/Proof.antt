@@ -1,7 +1,7 @@
 -- `refusals::carries_count` meets its contract. Assumes nothing.
 use borrow.Author.Tests.{ne-eqb}
-use Rattle.marks.proofs.refusals.carries_count.Statement.{statement}
-use Rattle.marks.proofs.refusals.carries_count.Tie as tie
+use Rattle.refusals.proofs.carries_count.Statement.{statement}
+use Rattle.refusals.proofs.carries_count.Tie as tie
 
 returns : tie.Need-returns
 returns c = rw (c .match .keys1)

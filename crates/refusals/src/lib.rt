@@ -2,17 +2,15 @@
 ghost use mathlib.Core.Path.{_≡_};
 ghost use Prim.Native.Nat.{_<_, _≤_};
 ghost use mathlib.Core.Bool.{cond};
-ghost use lib.Dec.{eqb, ltb};
+ghost use lib.Dec.{eqb};
 ghost use lib.IntN.{pos};
 ghost use lib.ListN.{length};
 ghost use Rattle.paper.specs.Descriptor.{sizeOf, segmentsOf};
 ghost use Rattle.paper.specs.Answers.{judged, refused, done as Done};
-ghost use Rattle.marks.specs.Orders.{carriesPlace, carriesCount, refusalAt, firstGiven, tableOrder, badSegment};
+ghost use Rattle.refusals.specs.Orders.{carriesPlace, carriesCount, refusalAt, firstGiven, tableOrder, badSegment};
 ghost use Rattle.table.specs.Cells.{Held, foundAt};
-ghost use Rattle.scan.specs.Listing.{Ready, metPositions};
 use paper::Descriptor;
 use paper::Reply;
-use paper::Window;
 
 // The first of the answers 1, 2, 3, 4, 12 that is given, or 0.
 pub fn of_table(table: &[i32], descriptor: Descriptor) -> usize
@@ -57,17 +55,6 @@ pub fn first_bad(number: usize, table: &[i32], descriptor: Descriptor, n: usize)
         return table::first_far(table, descriptor, n);
     }
     table::first_slanted(table, descriptor, n)
-}
-
-// How many numbers a scan makes due; where n cells are lent, which hold any, it is enough to say 0.
-pub fn due(table: &[i32], descriptor: Descriptor, window: Window, lent: usize, n: usize) -> usize
-    requires { ⌜ Ready (now table) descriptor window × (n ≡ sizeOf descriptor) ⌝ }
-    ensures { λ r. ⌜ (r ≤ 4096) × (ltb lent r ≡ ltb lent (length (metPositions (now (table .entry)) descriptor window))) × (lent < r → r ≡ length (metPositions (now (table .entry)) descriptor window)) ⌝ }
-{
-    if n <= lent {
-        return 0;
-    }
-    scan::due(table, descriptor, window)
 }
 
 // Which answers carry a place.

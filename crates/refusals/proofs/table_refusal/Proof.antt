@@ -7,10 +7,10 @@ use mir.Syntax.{w64}
 use mir.ValLaws.{toZ-ofZ}
 use Rattle.paper.specs.Descriptor.{sizeOf}
 use Rattle.paper.specs.Answers.{badCells, refused, done}
-use Rattle.marks.specs.Orders.{outside-given, by-outside, by-others, outside-at}
+use Rattle.refusals.specs.Orders.{outside-given, by-outside, by-others, outside-at}
 use borrow.Author.Needs.{needs}
-use Rattle.marks.proofs.refusals.table_refusal.Statement.{statement}
-use Rattle.marks.proofs.refusals.table_refusal.Tie as tie
+use Rattle.refusals.proofs.table_refusal.Statement.{statement}
+use Rattle.refusals.proofs.table_refusal.Tie as tie
 
 count-requires : tie.Need-count-requires
 count-requires c κs = search needs

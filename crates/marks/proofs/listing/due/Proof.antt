@@ -1,4 +1,4 @@
--- `refusals::due` meets its contract. Assumes nothing.
+-- `listing::due` meets its contract. Assumes nothing.
 use mathlib.Core.Path.{_≡_, refl, sym, ap, _∙_}
 use native.Mathlib.Omega.{arith}
 use borrow.Author.Tests.{le-ltb}
@@ -11,8 +11,8 @@ use lib.IntN.{pos}
 use Prim.Native.Nat.{ℕ, _≤_}
 use mathlib.Core.List.{List}
 use borrow.Author.Needs.{needs}
-use Rattle.marks.proofs.refusals.due.Statement.{statement}
-use Rattle.marks.proofs.refusals.due.Tie as tie
+use Rattle.marks.proofs.listing.due.Statement.{statement}
+use Rattle.marks.proofs.listing.due.Tie as tie
 
 -- no more are due than there are
 most : (c : tie.Start) → length (metPositions (c .args .table .now) (c .args .descriptor) (c .args .window)) ≤ sizeOf (c .args .descriptor)
