@@ -75,6 +75,21 @@ kalinosz_reply kalinosz_query(
     int64_t a, int64_t b, int64_t c, int64_t d,
     int32_t *numbers, size_t cells);
 
+/* Tables as well-known text. Reads MULTILINESTRING text of lines with exactly two whole points each (OGC 06-103r4; either case, spaces of byte 32 around any token,
+   optional signs, no Z, M, point or exponent; MULTILINESTRING EMPTY is a table of none) and fills cells[0 .. 4n-1] with x1 y1 x2 y2, line by line; count is n.
+   Answers, the first that applies: 13 (the text is not of that form; position is the first byte after which no accepted text can follow, or the text's length where it
+   stops short), 3, 5 (with its position), 7 (fewer than 4n cells). A refusal changes no cell. */
+kalinosz_reply kalinosz_wkt_read(
+    const uint8_t *text, size_t bytes,
+    int32_t *cells, size_t length);
+
+/* Writes the table as MULTILINESTRING ((0 2, 6 2), (4 0, 4 5)) or MULTILINESTRING EMPTY, with no byte after it; count is the bytes written, later bytes keep their
+   values. Answers, the first that applies: 1, 2, 3, 4, 5 (with its position), 7 (the text buffer is too short). A refusal changes no byte. */
+kalinosz_reply kalinosz_wkt_write(
+    const int32_t *table, size_t length,
+    int64_t kind, int64_t base, int64_t lower, int64_t n, int64_t segment_stride, int64_t coordinate_stride,
+    uint8_t *text, size_t bytes);
+
 /* The next three return a plain number, or a refusal as its negative. */
 
 /* The cell of a coordinate, if a table of this length holds every cell of its n positions. -3, -4, -12, -11. */

@@ -10,6 +10,8 @@ pub mod Results
 pub mod Hosts
 pub mod Lines
 pub mod Demands
+-- Request E3, tables as text.
+pub mod Wkt
 -- Not to be believed but checked: a test of meeting, and examples that antt computes.
 pub mod Corners
 pub mod Rows

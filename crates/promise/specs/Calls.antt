@@ -26,6 +26,7 @@ use Rattle.paper.specs.Words.{W, lowFirst, horizontals, verticals, indexWords}
 use Rattle.paper.specs.Walk.{word, extentIn, sizeIn, Walked, walked, walkOf}
 use Rattle.paper.specs.Orders.{badIndex, isStopped, builderOrder, queryOrder}
 use Rattle.paper.specs.Results.{Result, over, numbersOf, built, listing, queried}
+use Rattle.paper.specs.declared.Reply.{Reply}
 use Rattle.paper.specs.Demands.{ListsOnce, ListsNumbers, listedBy, Straight, IndexOf}
 use Rattle.paper.specs.declared.Descriptor.{Descriptor}
 use Rattle.paper.specs.declared.Segment.{Segment}
@@ -71,16 +72,16 @@ not-judged [] refuse answer All.none = refl
 not-judged (x ∷ xs) refuse answer (All.also e h) = rw e (not-judged xs refuse answer h)
 
 -- a reply with number 0 says that no answer was given
-pub none-refused : {xs : List Answer} (cells : List ℤ) (answer : Result) → All (λ x. 1 ≤ x .number) xs
-    → judged xs (λ x. (refused x, cells)) answer .0 .number ≡ pos 0 → All (λ x. x .given ≡ false) xs
-none-refused cells answer All.none e = All.none
-none-refused cells answer (All.also {x = x} {l = xs} h k) e = go (x .given) refl (none-refused cells answer k) e
+pub none-refused : {B : Type 0} {xs : List Answer} (kept : B) (answer : Reply × B) → All (λ x. 1 ≤ x .number) xs
+    → judged xs (λ x. (refused x, kept)) answer .0 .number ≡ pos 0 → All (λ x. x .given ≡ false) xs
+none-refused kept answer All.none e = All.none
+none-refused kept answer (All.also {x = x} {l = xs} h k) e = go (x .given) refl (none-refused kept answer k) e
   where
     zero : (n : ℕ) → 1 ≤ n → pos n ≡ pos 0 → ⊥
     zero n h e = omega whole
 
-    go : (b : Bool) → x .given ≡ b → (judged xs (λ x. (refused x, cells)) answer .0 .number ≡ pos 0 → All (λ x. x .given ≡ false) xs)
-        → cond b (refused x, cells) (judged xs (λ x. (refused x, cells)) answer) .0 .number ≡ pos 0 → All (λ x. x .given ≡ false) (x ∷ xs)
+    go : (b : Bool) → x .given ≡ b → (judged xs (λ x. (refused x, kept)) answer .0 .number ≡ pos 0 → All (λ x. x .given ≡ false) xs)
+        → cond b (refused x, kept) (judged xs (λ x. (refused x, kept)) answer) .0 .number ≡ pos 0 → All (λ x. x .given ≡ false) (x ∷ xs)
     go true g f e = absurd (zero (x .number) h e)
     go false g f e = All.also g (f e)
 

@@ -11,7 +11,6 @@ use lib.ListN.{length}
 use Rattle.lists.specs.Tests.{by-test, clash}
 use Rattle.lists.specs.Every.{All}
 use Rattle.paper.specs.Answers.{Answer, answer, badKind, badLower, badExtent, badStrides, badCells, badCoordinate, badSlant, judged, refused}
-use Rattle.paper.specs.Results.{Result}
 use Rattle.paper.specs.Descriptor.{outsideCells}
 use Rattle.paper.specs.declared.Descriptor.{Descriptor}
 use Rattle.paper.specs.declared.Reply.{Reply}
@@ -19,9 +18,9 @@ use Rattle.paper.specs.declared.Segment.{Segment}
 use Rattle.promise.specs.Calls.{not-judged, none-refused, number-at-cell, table-numbered}
 use Rattle.table.specs.Cells.{Held, foundAt, outsideAt}
 
--- the answers that carry a place: 5 and 6, the position sought, and 12, that of the cell
+-- the answers that carry a place: 5 and 6, the position sought, 12, that of the cell, and 13, the byte of a text
 abbrev pub carriesPlace : ℕ → Bool
-carriesPlace number = eqb number 5 || eqb number 6 || eqb number 12
+carriesPlace number = eqb number 5 || eqb number 6 || eqb number 12 || eqb number 13
 
 -- the answers that carry a count: 7, the numbers due, and 12, the coordinate of the cell
 abbrev pub carriesCount : ℕ → Bool
@@ -65,11 +64,11 @@ none-given (All.also {x = x} {l = xs} h hs) e = by-test (x .given) (λ t. absurd
     never : x .given ≡ true → ⊥
     never t = omega (arith, h, sym (ap (λ g. cond g (x .number) (firstGiven xs)) t) ∙ e)
 
--- a refusal, and the cells as they were
-abbrev pub refuse : List ℤ → Answer → Result
+-- a refusal, and the lent cells or bytes as they were
+abbrev pub refuse : {B : Type 0} → B → Answer → Reply × B
 refuse cells x = (refused x, cells)
 
-module _ (rest : List Answer) (cells : List ℤ) (done : Result) where
+module _ {B : Type 0} (rest : List Answer) (cells : B) (done : Reply × B) where
   -- where one of them is given it decides
   first-decides : (xs : List Answer) (other : Reply) → (firstGiven xs ≡ 0 → ⊥) → (judged xs refused other, cells) ≡ judged (xs ++ rest) (refuse cells) done
   first-decides [] other n = absurd (n refl)
@@ -153,7 +152,7 @@ module _ (table : List ℤ) (d : Descriptor) where
         go false false false false true q u = absurd (u twelve)
         go false false false false false q u = absurd (q refl)
 
-  module _ (rest : List Answer) (cells : List ℤ) (done : Result) where
+  module _ {B : Type 0} (rest : List Answer) (cells : B) (done : Reply × B) where
     -- one of the five refuses
     pub table-given : (other : Reply) → (firstGiven (tableOrder table d) ≡ 0 → ⊥) → (judged (tableOrder table d) refused other, cells) ≡ judged (tableOrder table d ++ rest) (refuse cells) done
     table-given other n = first-decides rest cells done (tableOrder table d) other n
@@ -179,6 +178,6 @@ outside-at n i j e g = e ∙ go (ltb i n) (sym (ap (λ y. y .given) e) ∙ g)
     go false h = clash (sym h)
 
 -- ---- the number 0 is returned only where nothing was refused
-pub zero-done : {xs : List Answer} (cells : List ℤ) (done : Result) → All (λ x. 1 ≤ x .number) xs
+pub zero-done : {B : Type 0} {xs : List Answer} (cells : B) (done : Reply × B) → All (λ x. 1 ≤ x .number) xs
     → judged xs (refuse cells) done .0 .number ≡ pos 0 → judged xs (refuse cells) done ≡ done
 zero-done {xs} cells done h e = not-judged xs (refuse cells) done (none-refused cells done h e)

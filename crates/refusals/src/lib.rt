@@ -65,6 +65,7 @@ fn carries_place(number: usize) -> bool
         5 => true,
         6 => true,
         12 => true,
+        13 => true,
         _ => false,
     }
 }

@@ -17,6 +17,18 @@ use Rattle.paper.specs.declared.Descriptor.{Descriptor}
 use Rattle.paper.specs.declared.Segment.{Segment}
 use Rattle.table.specs.Cells.{foundAt}
 
+-- an answer that is sought over positions, by the first that has the fault
+pub found-first : (number : ℕ) (f : ℕ → Bool) (n r : ℕ) → First f n r → answerAt number (filter f (positions n)) ≡ foundAt number n r
+found-first number f n r s = go (decLt r n)
+  where
+    go : Dec (r < n) → answerAt number (filter f (positions n)) ≡ foundAt number n r
+    go (yes l) =
+        let t = filter-first f n r l (s .before) (s .here l) in
+        ap (answerAt number) (t .1) ∙ ap (λ b. cond b (record { number = number; given = true; count = 0; position = r }) (answer number false)) (sym (lt-ltb r n l))
+    go (no l) =
+        ap (answerAt number) (chosen-none f n (λ p h. s .before p (omega arith)))
+        ∙ ap (λ b. cond b (record { number = number; given = true; count = 0; position = r }) (answer number false)) (sym (le-ltb r n (omega arith)))
+
 module _ (d : Descriptor) (table : List ℤ) where
   pub length-segments : length (segmentsOf d table) ≡ sizeOf d
   unfolding segmentsOf
@@ -35,16 +47,4 @@ module _ (d : Descriptor) (table : List ℤ) where
   -- an answer that is sought over the whole table, by the first position that has the fault
   pub first-answer : (number : ℕ) (q : Segment → Bool) (n r : ℕ) → n ≡ sizeOf d → First (λ p. q (segmentOf d table p)) n r
       → answerAt number (positionsOf q (segmentsOf d table)) ≡ foundAt number n r
-  first-answer number q n r e s =
-      ap (answerAt number) (chosen-are q ∙ ap (λ m. filter f (positions m)) (sym e)) ∙ go (decLt r n)
-    where
-      f : ℕ → Bool
-      f p = q (segmentOf d table p)
-
-      go : Dec (r < n) → answerAt number (filter f (positions n)) ≡ foundAt number n r
-      go (yes l) =
-          let t = filter-first f n r l (s .before) (s .here l) in
-          ap (answerAt number) (t .1) ∙ ap (λ b. cond b (record { number = number; given = true; count = 0; position = r }) (answer number false)) (sym (lt-ltb r n l))
-      go (no l) =
-          ap (answerAt number) (chosen-none f n (λ p h. s .before p (omega arith)))
-          ∙ ap (λ b. cond b (record { number = number; given = true; count = 0; position = r }) (answer number false)) (sym (le-ltb r n (omega arith)))
+  first-answer number q n r e s = ap (answerAt number) (chosen-are q ∙ ap (λ m. filter (λ p. q (segmentOf d table p)) (positions m)) (sym e)) ∙ found-first number (λ p. q (segmentOf d table p)) n r s

@@ -22,7 +22,7 @@ fn digit(x: usize) -> u8
 }
 
 // How many digits n has.
-fn width(n: usize) -> usize
+pub fn width(n: usize) -> usize
     ensures { λ r. ⌜ r ≡ length (digitsOf n) ⌝ }
 {
     let mut v = n;
@@ -52,7 +52,7 @@ fn put_digits(out: &mut [u8], at: usize, n: usize) -> usize
 }
 
 // How far below -1 a negative number lies: this has a value for the least of all, where 0 - z has none.
-fn below(z: i64) -> usize
+pub fn below(z: i64) -> usize
     requires { ⌜ ltZ z (pos 0) ≡ true ⌝ }
     ensures { λ r. ⌜ (z ≡ negsuc r) × (r < 9223372036854775808) ⌝ }
 {
@@ -60,7 +60,7 @@ fn below(z: i64) -> usize
 }
 
 // A number, with its minus.
-fn put_number(out: &mut [u8], at: usize, z: i64) -> usize
+pub fn put_number(out: &mut [u8], at: usize, z: i64) -> usize
     requires { ⌜ at + length (decimal z) ≤ length (now out) ⌝ }
     ensures { λ r. ⌜ Written (decimal z) at (now (out .entry)) r (now (out .exit)) ⌝ }
 {
