@@ -72,3 +72,8 @@ kalinosz_reply kalinosz_build_array(const CFI_cdesc_t *array, const CFI_cdesc_t 
 kalinosz_reply kalinosz_query_array(const CFI_cdesc_t *index, int64_t a, int64_t b, int64_t c, int64_t d, const CFI_cdesc_t *numbers) {
     return kalinosz_query(index->base_addr, lent(index), a, b, c, d, numbers->base_addr, lent(numbers));
 }
+
+kalinosz_reply kalinosz_write_wkt_array(const CFI_cdesc_t *array, uint8_t *text, size_t bytes) {
+    kalinosz_table t = kalinosz_describe_array(array);
+    return kalinosz_write_wkt(t.cells, t.length, t.kind, t.base, t.lower, t.n, t.segment_stride, t.coordinate_stride, text, bytes);
+}

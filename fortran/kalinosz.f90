@@ -2,7 +2,7 @@
 ! Arrays go in as they are, sections too, and no table is copied. docs/CALLING.md has a five-line start; kalinosz.h says
 ! the limits and the answers.
 module kalinosz
-  use, intrinsic :: iso_c_binding, only: c_int32_t, c_int64_t, c_size_t, c_ptr
+  use, intrinsic :: iso_c_binding, only: c_int32_t, c_int64_t, c_size_t, c_ptr, c_char
   implicit none
   ! These kinds come along with `use kalinosz`: cells, words and numbers are c_int32_t, edges and bounds c_int64_t (3_c_int64_t).
 
@@ -79,6 +79,31 @@ module kalinosz
       type(kalinosz_reply) :: reply
     end function
 
+    ! A table as well-known text: text is lent as so many bytes, as in kalinosz_write_wkt_shape(marks, line, len(line, c_size_t)).
+    function kalinosz_write_wkt_pointer(table, text, bytes) bind(C, name="kalinosz_write_wkt_array") result(reply)
+      import
+      integer(c_int32_t), pointer, intent(in) :: table(:, :)
+      character(kind=c_char), intent(inout) :: text(*)
+      integer(c_size_t), value :: bytes
+      type(kalinosz_reply) :: reply
+    end function
+
+    function kalinosz_write_wkt_allocatable(table, text, bytes) bind(C, name="kalinosz_write_wkt_array") result(reply)
+      import
+      integer(c_int32_t), allocatable, intent(in) :: table(:, :)
+      character(kind=c_char), intent(inout) :: text(*)
+      integer(c_size_t), value :: bytes
+      type(kalinosz_reply) :: reply
+    end function
+
+    function kalinosz_write_wkt_shape(table, text, bytes) bind(C, name="kalinosz_write_wkt_array") result(reply)
+      import
+      integer(c_int32_t), intent(in) :: table(:, :)
+      character(kind=c_char), intent(inout) :: text(*)
+      integer(c_size_t), value :: bytes
+      type(kalinosz_reply) :: reply
+    end function
+
     ! To look at a descriptor: what the calls above hand on.
     function kalinosz_describe_pointer(table) bind(C, name="kalinosz_describe_array") result(described)
       import
@@ -128,6 +153,25 @@ module kalinosz
       integer(c_size_t), value :: words, cells
       integer(c_int64_t), value :: a, b, c, d
       integer(c_int32_t), intent(inout) :: numbers(*)
+      type(kalinosz_reply) :: reply
+    end function
+
+    ! Trailing spaces do no harm, so a whole character variable may be given. cells(4, n) is filled column by column.
+    function kalinosz_read_wkt(text, bytes, cells, length) bind(C) result(reply)
+      import
+      character(kind=c_char), intent(in) :: text(*)
+      integer(c_size_t), value :: bytes, length
+      integer(c_int32_t), intent(inout) :: cells(*)
+      type(kalinosz_reply) :: reply
+    end function
+
+    function kalinosz_write_wkt(table, length, kind, base, lower, n, segment_stride, coordinate_stride, text, bytes) &
+        bind(C) result(reply)
+      import
+      integer(c_int32_t), intent(in) :: table(*)
+      integer(c_size_t), value :: length, bytes
+      integer(c_int64_t), value :: kind, base, lower, n, segment_stride, coordinate_stride
+      character(kind=c_char), intent(inout) :: text(*)
       type(kalinosz_reply) :: reply
     end function
 

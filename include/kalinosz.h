@@ -37,19 +37,20 @@ enum kalinosz_answer {
     KALINOSZ_STRIDES = 4,    /* a stride beyond its limits */
     KALINOSZ_COORDINATE = 5, /* a coordinate beyond its limits; reply.position is the first such position */
     KALINOSZ_SLANTED = 6,    /* build only: a segment neither horizontal nor vertical; reply.position is the first such position */
-    KALINOSZ_SHORT = 7,      /* build: index below kalinosz_words(n) words; scan, query: numbers below the numbers due, and reply.count is how many those are */
+    KALINOSZ_SHORT = 7,      /* build: index below kalinosz_words(n) words; scan, query: numbers below the numbers due, and reply.count is how many those are; read: fewer than 4 cells a line; write: text too short */
     KALINOSZ_WINDOW = 8,     /* a > b, c > d, or an edge beyond its limits */
     KALINOSZ_INDEX = 9,      /* these words are no index: fewer than 4, bad n, lower bound or counts, or fewer than kalinosz_words(n) */
     KALINOSZ_SPOILED = 10,   /* the query read a spoiled word */
     KALINOSZ_PLACE = 11,     /* kalinosz_cell only: no such position or coordinate */
-    KALINOSZ_OUTSIDE = 12    /* an addressed cell outside the table; reply.position is the first such position, reply.count its first such coordinate */
+    KALINOSZ_OUTSIDE = 12,   /* an addressed cell outside the table; reply.position is the first such position, reply.count its first such coordinate */
+    KALINOSZ_TEXT = 13       /* a text of another form; reply.position is the first byte after which no accepted text can follow, or the text's length */
 };
 
 typedef struct kalinosz_reply {
     int64_t number;   /* the answer, one of the above */
-    int64_t count;    /* scan, query: how many numbers were written; build: how many words; answer 7 of scan, query: how many numbers are due; answer 12: the coordinate, 0 to 3; otherwise 0 */
+    int64_t count;    /* scan, query: how many numbers were written; build: how many words; read: how many lines; write: how many bytes; answer 7 of scan, query: how many numbers are due; answer 12: the coordinate, 0 to 3; otherwise 0 */
     int64_t visits;   /* query: the steps of the walk, at most 4L^2 + 15L + 2 + 2 count on built words (L: binary digits of n); otherwise 0 */
-    int64_t position; /* the first position at fault (5, 6, 12); otherwise 0. A position counts from 0, whatever the lower bound */
+    int64_t position; /* the first position at fault (5, 6, 12), or the byte of a text (13); otherwise 0. A position counts from 0, whatever the lower bound */
 } kalinosz_reply;
 
 /* Lists the numbers of all segments, slanted ones too, that meet the window, ascending, in numbers[0 .. count-1]; later cells keep their values.
@@ -75,17 +76,17 @@ kalinosz_reply kalinosz_query(
     int64_t a, int64_t b, int64_t c, int64_t d,
     int32_t *numbers, size_t cells);
 
-/* Tables as well-known text. Reads MULTILINESTRING text of lines with exactly two whole points each (OGC 06-103r4; either case, spaces of byte 32 around any token,
-   optional signs, no Z, M, point or exponent; MULTILINESTRING EMPTY is a table of none) and fills cells[0 .. 4n-1] with x1 y1 x2 y2, line by line; count is n.
-   Answers, the first that applies: 13 (the text is not of that form; position is the first byte after which no accepted text can follow, or the text's length where it
-   stops short), 3, 5 (with its position), 7 (fewer than 4n cells). A refusal changes no cell. */
-kalinosz_reply kalinosz_wkt_read(
+/* Reads a table from well-known text (OGC 06-103r4): MULTILINESTRING where every line has exactly two points with whole coordinates, no Z or M. EMPTY is a
+   table of none. Letters in either case; spaces (byte 32) may stand around any token and must part two words or numbers; a coordinate is digits with an
+   optional sign, and a point, an exponent or an EMPTY line among others is refused. A line feed is no space: leave it out of `bytes`.
+   cells[0 .. 4 count-1] become x1 y1 x2 y2 of each line; later cells keep their values. Answers, the first that applies: 13, 3, 5, 7. */
+kalinosz_reply kalinosz_read_wkt(
     const uint8_t *text, size_t bytes,
     int32_t *cells, size_t length);
 
-/* Writes the table as MULTILINESTRING ((0 2, 6 2), (4 0, 4 5)) or MULTILINESTRING EMPTY, with no byte after it; count is the bytes written, later bytes keep their
-   values. Answers, the first that applies: 1, 2, 3, 4, 5 (with its position), 7 (the text buffer is too short). A refusal changes no byte. */
-kalinosz_reply kalinosz_wkt_write(
+/* Writes the table as MULTILINESTRING ((0 2, 6 2), (4 0, 4 5)) or MULTILINESTRING EMPTY, with nothing after it, into text[0 .. count-1]; later bytes keep their
+   values. Reading that gives the same coordinates. 48 n + 21 bytes are always enough. Answers, the first that applies: 1, 2, 3, 4, 12, 5, 7. */
+kalinosz_reply kalinosz_write_wkt(
     const int32_t *table, size_t length,
     int64_t kind, int64_t base, int64_t lower, int64_t n, int64_t segment_stride, int64_t coordinate_stride,
     uint8_t *text, size_t bytes);

@@ -89,7 +89,7 @@ fn opened(line: Line, at: usize) -> Outcome
 }
 
 // A segment into four cells of the table.
-fn put_segment(cells: &mut [i32], at: usize, s: Segment)
+pub fn put_segment(cells: &mut [i32], at: usize, s: Segment)
     requires { ⌜ (at + 4 ≤ length (now cells)) × (farOff s ≡ false) ⌝ }
     ensures { λ r. ⌜ now (cells .exit) ≡ put at (cellsOf s) (now (cells .entry)) ⌝ }
 {

@@ -16,3 +16,4 @@ pub mod Wkt
 pub mod Corners
 pub mod Rows
 pub mod Examples
+pub mod WktExamples

@@ -92,7 +92,7 @@ fn put_count(out: &mut [u8], at: usize, n: usize) -> usize
 }
 
 // As many as a number says; a negative one says none.
-fn size(z: i64) -> usize
+pub fn size(z: i64) -> usize
     ensures { λ r. ⌜ r ≡ toNat z ⌝ }
 {
     if whole::less(z, 0) {
@@ -111,7 +111,7 @@ fn least(a: usize, b: usize) -> usize
 }
 
 // The first of some numbers, each after a tab, and a line feed.
-fn put_tabbed(out: &mut [u8], at: usize, numbers: &[i32], count: usize) -> usize
+pub fn put_tabbed(out: &mut [u8], at: usize, numbers: &[i32], count: usize) -> usize
     requires { ⌜ at + 21 * length (now numbers) + 1 ≤ length (now out) ⌝ }
     ensures within { λ r. ⌜ r ≤ length (now (out .entry)) ⌝ }
     ensures { λ r. ⌜ Written (tabbed (take count (now (numbers .entry)))) at (now (out .entry)) r (now (out .exit)) ⌝ }

@@ -1,25 +1,21 @@
--- Examples of request E3 on both sides of each test, one statement each for reading and writing; antt computes them. Strings stand for bytes and for cells.
+-- Request E3: examples of reading on both sides of each test, one statement; antt computes them. Strings stand for bytes and for cells.
+-- Examples of writing are in `paper`'s WktExamples.
 use mathlib.Core.Path.{_≡_, refl}
 use mathlib.Core.List.{List, [], _∷_}
 use Prim.Native.Nat.{ℕ}
 use Prim.Native.String.{String}
 use lib.IntN.{ℤ, pos}
 use lib.ListN.{replicate}
-use Rattle.lists.specs.Plain.{filter, positions, any, joined}
-use Rattle.paper.specs.Rows.{bytes, cells, sevens, descriptor, reply}
-use Rattle.paper.specs.Lines.{parts, valueFrom, decimalTo}
-use Rattle.paper.specs.Descriptor.{segmentsOf, addressed}
-use Rattle.paper.specs.Wkt.{Read, coordinatesOf, furtherText, written}
+use Rattle.lists.specs.Plain.{filter, positions}
+use Rattle.paper.specs.Rows.{bytes, cells, sevens, reply}
+use Rattle.paper.specs.Lines.{parts, valueFrom}
+use Rattle.paper.specs.Wkt.{Read, coordinatesOf}
 use Rattle.wkt_read.specs.Machine.{run}
 use Rattle.wkt_read.specs.Decision.{grouped, placeFrom, read-decided}
 
 -- a text read into so many cells that each hold 7: the reply, and the cells afterwards
 abbrev Reads : String → ℕ → String → List ℤ → Type 0
 Reads text n r after = Read (bytes text) (sevens n) (reply r, after)
-
--- a table, its descriptor, and a lent text: the reply, and the text afterwards
-abbrev Writes : String → String → String → String → String → Type 0
-Writes table d text r after = written (cells table) (descriptor d) (bytes text) ≡ (reply r, bytes after)
 
 pub readings :
     -- accepted
@@ -108,22 +104,3 @@ readings = (
   read-decided _ _,
   read-decided _ _,
 )
-
-pub writings :
-    Writes "0 2 6 2 4 0 4 5" "2 0 1 2 4 1" "........................................." "0 40 0 0" "MULTILINESTRING ((0 2, 6 2), (4 0, 4 5))."
-    × Writes "5" "3 9 0 0 1 1" "......................" "0 21 0 0" "MULTILINESTRING EMPTY."
-    -- a negative stride, a stride of 0, and a minus
-    × Writes "4 0 4 -5" "1 3 0 1 0 -1" ".............................." "0 29 0 0" "MULTILINESTRING ((-5 4, 0 4))."
-    × Writes "8" "1 0 0 2 0 0" "........................................." "0 40 0 0" "MULTILINESTRING ((8 8, 8 8), (8 8, 8 8))."
-    -- the refusals, each with all later faults; 12 returns position and coordinate
-    × Writes "" "4 0 1000001 4097 1048577 1" "..." "1 0 0 0" "..."
-    × Writes "" "3 0 1 4097 1048577 1" "..." "2 0 0 0" "..."
-    × Writes "" "1 0 0 4097 1048577 1" "..." "3 0 0 0" "..."
-    × Writes "536870913" "1 0 0 1 1048577 1" "..." "4 0 0 0" "..."
-    × Writes "536870913 0 0 0 0" "1 0 0 2 3 1" "..." "12 2 0 1" "..."
-    × Writes "1 2 3 4 1 2 3 536870913" "1 0 0 2 4 1" "..." "5 0 0 1" "..."
-    -- 7: one byte short
-    × Writes "0 2 6 2 4 0 4 5" "2 0 1 2 4 1" "......................................." "7 0 0 0" "......................................."
-    × Writes "" "1 0 0 0 1 1" "...................." "7 0 0 0" "...................."
-unfolding written bytes parts valueFrom decimalTo segmentsOf addressed furtherText positions filter any joined
-writings = (refl, refl, refl, refl, refl, refl, refl, refl, refl, refl, refl, refl)

@@ -1,7 +1,7 @@
--- `hosts::kalinosz_wkt_read` meets its contract. Assumes nothing.
+-- `hosts::kalinosz_read_wkt` meets its contract. Assumes nothing.
 use borrow.Author.Needs.{needs}
-use Rattle.hosts.proofs.kalinosz_wkt_read.Statement.{statement}
-use Rattle.hosts.proofs.kalinosz_wkt_read.Tie as tie
+use Rattle.hosts.proofs.kalinosz_read_wkt.Statement.{statement}
+use Rattle.hosts.proofs.kalinosz_read_wkt.Tie as tie
 
 read-requires : tie.Need-read-requires
 read-requires c κs = search needs
@@ -15,5 +15,5 @@ same-length c = search needs
 returns : tie.Need-returns
 returns c = rw (c .to-host .ensures) (c .before .before .read .ensures)
 
-pub kalinosz-wkt-read-spec : {M : Type 1} → statement M
-kalinosz-wkt-read-spec = tie.close (tie.spec read-requires to-host-requires same-length returns)
+pub kalinosz-read-wkt-spec : {M : Type 1} → statement M
+kalinosz-read-wkt-spec = tie.close (tie.spec read-requires to-host-requires same-length returns)
