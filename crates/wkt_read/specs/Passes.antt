@@ -1,6 +1,6 @@
--- What the two passes over a text keep true: the first judges it, the second writes its numbers into cells.
+-- What a pass over a text keeps true: it is judged, and where cells are filled its numbers are written into them.
 use mathlib.Core.Path.{_≡_, refl, sym, ap, ap₂, _∙_, subst}
-use mathlib.Core.Bool.{Bool, true, false}
+use mathlib.Core.Bool.{Bool, true, false, _&&_}
 use mathlib.Core.List.{List, [], _∷_, _++_, map, map-append}
 use Prim.Native.Nat.{ℕ, suc, _+_, _≤_, _<_}
 use native.Mathlib.Omega.{arith}
@@ -51,7 +51,7 @@ reader-bound text i e =
     let s = shape-bound (shape-run (take i text) shape-start) in
     subst (λ (x : Reader). Bound (x .state) × (x .value ≤ 536870913)) (sym e) (s, omega arith)
 
--- ---- the first pass
+-- ---- judging
 pub record Judging (text : List ℕ) (h : Reader) (t : Tally) (i : ℕ) : Type 0 where
   pub within : i ≤ length text
   pub reader : h ≡ shown (upTo text i)
@@ -103,28 +103,24 @@ module _ {text : List ℕ} {h : Reader} {t : Tally} {i : ℕ} (j : Judging text 
         tally = λ q. j .tally ∙ ap (λ x. tallyOf (run start x .numbers)) all;
       }
 
--- ---- the second pass
+-- ---- filling
 
--- the cells after a byte: a number that has ended is written, and otherwise nothing is
-pub record Kept (h : Reader) (s : State) (k : ℕ) (before : List ℤ) (k′ : ℕ) (after : List ℤ) : Type 0 where
-  pub none : endsNumber h s ≡ false → (k′ ≡ k) × (after ≡ before)
-  pub one : endsNumber h s ≡ true → (k′ ≡ k + 1) × (after ≡ set before k (signedValue (h .negative) (h .value)))
+-- the cells after a byte: a number that has ended is written where cells are filled, and otherwise nothing is
+pub record Kept (fills : Bool) (h : Reader) (s : State) (k : ℕ) (before after : List ℤ) : Type 0 where
+  pub none : fills && endsNumber h s ≡ false → after ≡ before
+  pub one : fills && endsNumber h s ≡ true → after ≡ set before k (signedValue (h .negative) (h .value))
 
-pub kept-none : (h : Reader) (s : State) {k : ℕ} {cells : List ℤ} → endsNumber h s ≡ false → Kept h s k cells k cells
-kept-none h s e = record { none = λ q. (refl, refl); one = λ q. clash (sym q ∙ e) }
+pub kept-none : {fills : Bool} (h : Reader) (s : State) {k : ℕ} {cells : List ℤ} → fills && endsNumber h s ≡ false → Kept fills h s k cells cells
+kept-none h s e = record { none = λ q. refl; one = λ q. clash (sym q ∙ e) }
 
-pub kept-one : (h : Reader) (s : State) {k : ℕ} {cells after : List ℤ} → endsNumber h s ≡ true → after ≡ set cells k (signedValue (h .negative) (h .value)) → Kept h s k cells (k + 1) after
-kept-one h s e f = record { none = λ q. clash (sym e ∙ q); one = λ q. (refl, f) }
+pub kept-one : {fills : Bool} (h : Reader) (s : State) {k : ℕ} {cells after : List ℤ} → fills && endsNumber h s ≡ true → after ≡ set cells k (signedValue (h .negative) (h .value)) → Kept fills h s k cells after
+kept-one h s e f = record { none = λ q. clash (sym e ∙ q); one = λ q. f }
 
 pub record Filling (text : List ℕ) (before : List ℤ) (h : Reader) (k i : ℕ) (cells : List ℤ) : Type 0 where
   pub within : i ≤ length text
   pub reader : h ≡ shown (upTo text i)
   pub count : k ≡ length (upTo text i .numbers)
   pub wrote : cells ≡ over (map clipped (upTo text i .numbers)) before
-
-pub filling-start : (text : List ℕ) (before : List ℤ) → Filling text before (record { state = Start; negative = false; value = 0 }) 0 0 before
-unfolding run
-filling-start text before = record { within = omega arith; reader = refl; count = refl; wrote = refl }
 
 module _ {text : List ℕ} {before : List ℤ} {h : Reader} {k i : ℕ} {cells : List ℤ} (room : length (run start text .numbers) ≤ length before) (f : Filling text before h k i cells) where
   few : (m : ℕ) → length (upTo text m .numbers) ≤ length before
@@ -135,9 +131,6 @@ module _ {text : List ℕ} {before : List ℤ} {h : Reader} {k i : ℕ} {cells :
 
   pub filling-length : length cells ≡ length before
   filling-length = ap length (f .wrote) ∙ over-length (map clipped (upTo text i .numbers)) before (omega (arith, length-map (upTo text i .numbers) clipped, few i))
-
-  pub filling-end : length text ≤ i → cells ≡ over (map clipped (run start text .numbers)) before
-  filling-end l = f .wrote ∙ ap (λ x. over (map clipped (run start x .numbers)) before) (take-all i text l)
 
   module _ (l : i < length text) {b : ℕ} (e : b ≡ getD text i 0) {n : Reader} (r : n ≡ readOn h b) where
     reads′ : n ≡ shown (upTo text (i + 1))
@@ -180,8 +173,32 @@ module _ {text : List ℕ} {before : List ℤ} {h : Reader} {k i : ℕ} {cells :
                 ∙ ap (λ x. over (map clipped x) before) (sym grew);
           }
 
-    pub filling-next : {k′ : ℕ} {after : List ℤ} → Kept h (n .state) k cells k′ after → Filling text before n k′ (i + 1) after
-    filling-next {k′} {after} w =
-        by-test (endsNumber h (n .state))
-        (λ q. let p = w .one q in subst (λ x. Filling text before n x (i + 1) after) (sym (p .0)) (subst (Filling text before n (k + 1) (i + 1)) (sym (p .1)) (filling-write q refl)))
-        (λ q. let p = w .none q in subst (λ x. Filling text before n x (i + 1) after) (sym (p .0)) (subst (Filling text before n k (i + 1)) (sym (p .1)) (filling-skip q)))
+    filling-next : {after : List ℤ} → Kept true h (n .state) k cells after → after ≡ over (map clipped (upTo text (i + 1) .numbers)) before
+    filling-next w = by-test (endsNumber h (n .state)) (λ q. w .one q ∙ filling-write q refl .wrote) (λ q. w .none q ∙ filling-skip q .wrote)
+
+-- the cells after i bytes
+abbrev pub Wrote : Bool → List ℕ → List ℤ → ℕ → List ℤ → Type 0
+Wrote true text before i cells = cells ≡ over (map clipped (upTo text i .numbers)) before
+Wrote false text before i cells = cells ≡ before
+
+pub wrote-start : (fills : Bool) (text : List ℕ) (before : List ℤ) → Wrote fills text before 0 before
+unfolding run
+wrote-start true text before = refl
+wrote-start false text before = refl
+
+module _ (before cells : List ℤ) {text : List ℕ} {h : Reader} {t : Tally} {i : ℕ} (j : Judging text h t i) where
+  filling : Wrote true text before i cells → Filling text before h (t .numbers) i cells
+  filling w = record { within = j .within; reader = j .reader; count = ap (λ x. x .numbers) (j .tally); wrote = w }
+
+  pub wrote-end : (fills : Bool) → fills ≡ true → length text ≤ i → Wrote fills text before i cells → cells ≡ over (map clipped (run start text .numbers)) before
+  wrote-end true f l w = w ∙ ap (λ x. over (map clipped (run start x .numbers)) before) (take-all i text l)
+  wrote-end false f l w = clash (sym f)
+
+  module _ (l : i < length text) {b : ℕ} (e : b ≡ getD text i 0) {n : Reader} (r : n ≡ readOn h b) where
+    pub wrote-room : (fills : Bool) → (fills ≡ true → length (run start text .numbers) ≤ length before) → Wrote fills text before i cells → fills ≡ true → endsNumber h (n .state) ≡ true → t .numbers < length cells
+    wrote-room true room w f q = filling-room (room refl) (filling w) l e r q
+    wrote-room false room w f q = clash (sym f)
+
+    pub wrote-next : (fills : Bool) → (fills ≡ true → length (run start text .numbers) ≤ length before) → Wrote fills text before i cells → {after : List ℤ} → Kept fills h (n .state) (t .numbers) cells after → Wrote fills text before (i + 1) after
+    wrote-next true room w k = filling-next (room refl) (filling w) l e r k
+    wrote-next false room w k = k .none refl ∙ w

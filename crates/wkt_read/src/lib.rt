@@ -9,7 +9,7 @@ ghost use lib.IntN.{pos, _-ℤ_};
 ghost use mir.Syntax.{w32, w64};
 ghost use mir.Val.{SFits};
 ghost use Rattle.paper.specs.Results.{over};
-ghost use Rattle.wkt_read.specs.Machine.{signedValue, run, start};
+ghost use Rattle.wkt_read.specs.Machine.{signedValue, ended, run, start};
 ghost use Rattle.wkt_read.specs.Sound.{Bound};
 ghost use Rattle.wkt_read.specs.Tally.{grown as Grown, readOn, endsNumber, counted as Counted, clipped};
 ghost use Rattle.wkt_read.specs.Passes.{IsJudged, Kept};
@@ -112,9 +112,45 @@ fn counted(tally: Tally, reader: Reader, state: State) -> Tally
     }
 }
 
-// The first pass: nothing is written.
-pub fn judge(text: &[u8]) -> Judged
+fn opposite(z: i64) -> i64
+    requires { ⌜ SFits w64 (pos 0 -ℤ z) ⌝ }
+    ensures { λ r. ⌜ r ≡ pos 0 -ℤ z ⌝ }
+    ensures fits { λ r. ⌜ SFits w64 r ⌝ }
+{
+    0 - z
+}
+
+fn signed(negative: bool, value: usize) -> i32
+    requires { ⌜ value ≤ 536870913 ⌝ }
+    ensures { λ r. ⌜ r ≡ signedValue negative value ⌝ }
+    ensures fits { λ r. ⌜ SFits w32 r ⌝ }
+{
+    let z = whole::count(value);
+    if negative {
+        return whole::narrow(opposite(z));
+    }
+    whole::narrow(z)
+}
+
+// A number that has ended into its cell, where cells are filled.
+fn keep(cells: &mut [i32], k: usize, reader: Reader, state: State, fills: bool)
+    requires { ⌜ (reader .value ≤ 536870913) × (fills ≡ true → endsNumber reader state ≡ true → k < length (now cells)) ⌝ }
+    ensures { λ r. ⌜ Kept fills reader state k (now (cells .entry)) (now (cells .exit)) ⌝ }
+{
+    if !fills {
+        return;
+    }
+    if !ends_number(reader, state) {
+        return;
+    }
+    cells[k] = signed(reader.negative, reader.value);
+}
+
+// A pass over the bytes, the only loop: the text is judged; where `fills` is set, each number goes into its cell too.
+fn pass(text: &[u8], cells: &mut [i32], fills: bool) -> Judged
+    requires { ⌜ (fills ≡ true → length (run start (now text) .numbers) ≤ length (now cells)) ⌝ }
     ensures { λ r. ⌜ IsJudged (now (text .entry)) r ⌝ }
+    ensures filled { λ r. ⌜ (fills ≡ true → r .accepted ≡ true → now (cells .exit) ≡ over (map clipped (run start (now (text .entry)) .numbers)) (now (cells .entry))) ⌝ }
 {
     let mut reader = Reader {
         state: State::Start,
@@ -136,6 +172,7 @@ pub fn judge(text: &[u8]) -> Judged
                 tally: tally,
             };
         }
+        keep(cells, tally.numbers, reader, state, fills);
         tally = counted(tally, reader, state);
         reader = next;
         i += 1;
@@ -148,55 +185,18 @@ pub fn judge(text: &[u8]) -> Judged
     }
 }
 
-fn opposite(z: i64) -> i64
-    requires { ⌜ SFits w64 (pos 0 -ℤ z) ⌝ }
-    ensures { λ r. ⌜ r ≡ pos 0 -ℤ z ⌝ }
-    ensures fits { λ r. ⌜ SFits w64 r ⌝ }
+// The first pass: nothing is written.
+pub fn judge(text: &[u8]) -> Judged
+    ensures { λ r. ⌜ IsJudged (now (text .entry)) r ⌝ }
 {
-    0 - z
+    let mut none = [0i32; 1];
+    pass(text, &mut none, false)
 }
 
-fn signed(negative: bool, value: usize) -> i32
-    requires { ⌜ value ≤ 536870913 ⌝ }
-    ensures { λ r. ⌜ r ≡ signedValue negative value ⌝ }
-    ensures fits { λ r. ⌜ SFits w32 r ⌝ }
-{
-    let z = whole::count(value);
-    if negative {
-        return whole::narrow(opposite(z));
-    }
-    whole::narrow(z)
-}
-
-// A number that has ended into its cell; the cell of the next is returned.
-fn keep(cells: &mut [i32], k: usize, reader: Reader, state: State) -> usize
-    requires { ⌜ (reader .value ≤ 536870913) × (endsNumber reader state ≡ true → k < length (now cells)) ⌝ }
-    ensures { λ r. ⌜ Kept reader state k (now (cells .entry)) r (now (cells .exit)) ⌝ }
-{
-    if !ends_number(reader, state) {
-        return k;
-    }
-    cells[k] = signed(reader.negative, reader.value);
-    k + 1
-}
-
-// The second pass: each number into its cell.
+// The second pass, over a text that is accepted: each number into its cell.
 pub fn fill(text: &[u8], cells: &mut [i32])
-    requires { ⌜ length (run start (now text) .numbers) ≤ length (now cells) ⌝ }
+    requires { ⌜ (ended (run start (now text) .state) ≡ true) × (length (run start (now text) .numbers) ≤ length (now cells)) ⌝ }
     ensures { λ r. ⌜ now (cells .exit) ≡ over (map clipped (run start (now (text .entry)) .numbers)) (now (cells .entry)) ⌝ }
 {
-    let mut reader = Reader {
-        state: State::Start,
-        negative: false,
-        value: 0,
-    };
-    let mut k = 0;
-    let mut i = 0;
-    while i < text.len() {
-        let next = read_on(reader, wide(text[i]));
-        let state = next.state;
-        k = keep(cells, k, reader, state);
-        reader = next;
-        i += 1;
-    }
+    pass(text, cells, true);
 }

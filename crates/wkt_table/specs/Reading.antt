@@ -46,8 +46,9 @@ module _ (text : List ℕ) (cells : List ℤ) where
     fitting-is : j .tally .fitting ≡ fittingOf (coordinatesOf segments)
     fitting-is = ap (λ t. t .fitting) counts
 
-    pub fill-room : j .tally .numbers ≤ length cells → length (run start text .numbers) ≤ length cells
-    fill-room h = omega (arith, h, ap (λ t. t .numbers) (s .tally e))
+    -- what `fill` asks
+    pub fill-room : j .tally .numbers ≤ length cells → (ended (run start text .state) ≡ true) × (length (run start text .numbers) ≤ length cells)
+    fill-room h = (sym (s .accepted) ∙ e, omega (arith, h, ap (λ t. t .numbers) (s .tally e)))
 
     -- how many lines
     lines-are : j .tally .numbers / 4 ≡ length segments
