@@ -1,5 +1,6 @@
 // The automaton that reads a text byte by byte: its states, and the state after one byte more.
 ghost use mathlib.Core.Path.{_≡_};
+ghost use mathlib.Core.Bool.{_&&_};
 ghost use Prim.Native.Nat.{_≤_, _<_};
 ghost use lib.ListN.{getD};
 ghost use Rattle.paper.specs.Lines.{isDigit};
@@ -283,4 +284,11 @@ pub fn failed(state: State) -> bool
     ensures { λ r. ⌜ r ≡ Failed state ⌝ }
 {
     sort(state) == 4
+}
+
+// Whether a byte is one more digit of a number: most bytes are, and leave the state as it is.
+pub fn more_digits(state: State, b: usize) -> bool
+    ensures { λ r. ⌜ r ≡ inNumber state && isDigit b ⌝ }
+{
+    in_number(state) & is_digit(b)
 }

@@ -70,6 +70,13 @@ fn read_on(reader: Reader, b: usize) -> Reader
     ensures { λ r. ⌜ r ≡ readOn reader b ⌝ }
 {
     let before = reader.state;
+    if automaton::more_digits(before, b) {
+        return Reader {
+            state: before,
+            negative: reader.negative,
+            value: grown(reader.value, b),
+        };
+    }
     let state = automaton::step(before, b);
     if automaton::in_number(state) {
         return Reader {
