@@ -16,20 +16,20 @@ use lib.ListN.{length, take, drop, getD, length-append}
 use lib.Seq.{take-suc}
 use borrow.Author.Tests.{eq-eqb, ne-eqb, leb-true, leb-false, le-leb, lt-leb}
 use Rattle.lists.specs.Plain.{within}
-use Rattle.lists.specs.Tests.{by-test, clash, is-true, and-true}
+use Rattle.lists.specs.Tests.{by-test, clash, is-true}
 use Rattle.lists.specs.Choosing.{First}
 use Rattle.paper.specs.Limits.{coordinateFits}
 use Rattle.paper.specs.Lines.{isDigit, digit0, minus}
 use Rattle.paper.specs.Answers.{farOff}
 use Rattle.paper.specs.Descriptor.{at as segmentAt}
-use Rattle.paper.specs.Wkt.{Place, coordinatesOf}
+use Rattle.paper.specs.Wkt.{space, Place, coordinatesOf}
 use Rattle.paper.specs.declared.Segment.{Segment}
 use Rattle.wkt_read.specs.declared.automaton.State.{State}
-use Rattle.wkt_read.specs.declared.automaton.State.the-variants.{Start, Name, Named, Body, Empty, Line, Due, Signed, Number, After, More, End, Failed}
+use Rattle.wkt_read.specs.declared.automaton.State.the-variants.{Due, Number, After, More, Failed}
 use Rattle.wkt_read.specs.declared.Reader.{Reader}
 use Rattle.wkt_read.specs.declared.Tally.{Tally}
 use Rattle.wkt_read.specs.declared.Judged.{Judged}
-use Rattle.wkt_read.specs.Machine.{onward, markAfter, pastMark, stepState, isSigned, inNumber, ended, failed, Reading, signedValue, finished, to, step, run, at, start, run-snoc, run-append}
+use Rattle.wkt_read.specs.Machine.{onward, markAfter, pastMark, sortOf, stepState, isSigned, inNumber, ended, failed, Reading, signedValue, finished, to, step, run, at, start, run-snoc, run-append}
 use Rattle.wkt_read.specs.Sound.{Bound, Shape, loose, signed, counted as inside, shape-run, shape-start}
 
 -- ---- values
@@ -70,24 +70,28 @@ reads-other h b e f g =
     (λ t. cond t (record { state = stepState (h .state) b; negative = h .negative; value = grown (h .value) b }) (record { state = stepState (h .state) b; negative = isSigned (stepState (h .state) b) && eqb b minus; value = 0 }))
     (ap inNumber (sym e) ∙ f))
 
--- one more digit of a number leaves the state as it is
-digit-stays : (s : State) (b : ℕ) → inNumber s ≡ true → isDigit b ≡ true → stepState s b ≡ s
-digit-stays Start b e f = clash (sym e)
-digit-stays (Name k) b e f = clash (sym e)
-digit-stays Named b e f = clash (sym e)
-digit-stays Body b e f = clash (sym e)
-digit-stays (Empty k) b e f = clash (sym e)
-digit-stays Line b e f = clash (sym e)
-digit-stays (Due c) b e f = clash (sym e)
-digit-stays (Signed c) b e f = clash (sym e)
-digit-stays (Number c) b e f = ap (λ t. cond t (Number c) (onward b (markAfter c) (pastMark c) (After c))) f
-digit-stays (After c) b e f = clash (sym e)
-digit-stays More b e f = clash (sym e)
-digit-stays End b e f = clash (sym e)
-digit-stays Failed b e f = clash (sym e)
+-- in a number: one more digit leaves the state as it is, and what follows is neither a number nor a sign
+module _ (h : Reader) (b c : ℕ) (e : h .state ≡ Number c) where
+  from : {t : Bool} → isDigit b ≡ t → cond t (Number c) (onward b (markAfter c) (pastMark c) (After c)) ≡ stepState (h .state) b
+  from f = sym (ap (λ s. stepState s b) e ∙ ap (λ t. cond t (Number c) (onward b (markAfter c) (pastMark c) (After c))) f)
 
-pub reads-more : (h : Reader) (b : ℕ) {v : ℕ} → inNumber (h .state) && isDigit b ≡ true → v ≡ grown (h .value) b → record { state = h .state; negative = h .negative; value = v } ≡ readOn h b
-reads-more h b e g = let p = and-true (inNumber (h .state)) (isDigit b) e in reads-digit h b (sym (digit-stays (h .state) b (p .0) (p .1))) (p .0) g
+  pub reads-more : {v : ℕ} → isDigit b ≡ true → v ≡ grown (h .value) b → record { state = Number c; negative = h .negative; value = v } ≡ readOn h b
+  reads-more f g = reads-digit h b (from f) refl g
+
+  after-plain : (sort : ℕ) → eqb (sortOf More) sort ≡ false → eqb (sortOf (Due (c + 1))) sort ≡ false → eqb (sortOf (After c)) sort ≡ false → eqb (sortOf Failed) sort ≡ false
+      → eqb (sortOf (onward b (markAfter c) (pastMark c) (After c))) sort ≡ false
+  after-plain sort p q r x = go (eqb b (markAfter c)) (eqb c 3) (eqb b space)
+    where
+      go : (t u v : Bool) → eqb (sortOf (cond t (cond u More (Due (c + 1))) (cond v (After c) Failed))) sort ≡ false
+      go true true v = p
+      go true false v = q
+      go false u true = r
+      go false u false = x
+
+  pub reads-after : isDigit b ≡ false → {s : State} → s ≡ onward b (markAfter c) (pastMark c) (After c) → record { state = s; negative = false; value = 0 } ≡ readOn h b
+  reads-after f {s} g =
+      reads-other h b (g ∙ from f) (ap inNumber g ∙ after-plain 2 refl refl refl refl)
+      (sym (ap (λ t. t && eqb b minus) (ap isSigned g ∙ after-plain 1 refl refl refl refl)))
 
 pub shown-step : (r : Reading) (b : ℕ) → shown (step r b) ≡ readOn (shown r) b
 shown-step r b = go (stepState (r .state) b) (inNumber (stepState (r .state) b))

@@ -1,6 +1,5 @@
 // The automaton that reads a text byte by byte: its states, and the state after one byte more.
 ghost use mathlib.Core.Path.{_≡_};
-ghost use mathlib.Core.Bool.{_&&_};
 ghost use Prim.Native.Nat.{_≤_, _<_};
 ghost use lib.ListN.{getD};
 ghost use Rattle.paper.specs.Lines.{isDigit};
@@ -44,7 +43,7 @@ fn capital(b: usize) -> usize
     b
 }
 
-fn is_digit(b: usize) -> bool
+pub fn is_digit(b: usize) -> bool
     ensures { λ r. ⌜ r ≡ isDigit b ⌝ }
 {
     (48 <= b) & (b <= 57)
@@ -183,7 +182,7 @@ fn past_mark(c: usize) -> State
     State::Due(c + 1)
 }
 
-fn on_after(c: usize, b: usize) -> State
+pub fn on_after(c: usize, b: usize) -> State
     requires { ⌜ c ≤ 3 ⌝ }
     ensures { λ r. ⌜ r ≡ stepState (State.After c) b ⌝ }
 {
@@ -284,11 +283,4 @@ pub fn failed(state: State) -> bool
     ensures { λ r. ⌜ r ≡ Failed state ⌝ }
 {
     sort(state) == 4
-}
-
-// Whether a byte is one more digit of a number: most bytes are, and leave the state as it is.
-pub fn more_digits(state: State, b: usize) -> bool
-    ensures { λ r. ⌜ r ≡ inNumber state && isDigit b ⌝ }
-{
-    in_number(state) & is_digit(b)
 }
