@@ -87,6 +87,22 @@ ended s = eqb (sortOf s) 3
 abbrev pub failed : State → Bool
 failed s = eqb (sortOf s) 4
 
+-- the coordinate that a digit would belong to, or 4 where none may stand
+abbrev pub digitPlace : State → ℕ
+digitPlace Start = 4
+digitPlace (Name k) = 4
+digitPlace Named = 4
+digitPlace Body = 4
+digitPlace (Empty k) = 4
+digitPlace Line = 4
+digitPlace (Due c) = c
+digitPlace (Signed c) = c
+digitPlace (Number c) = c
+digitPlace (After c) = 4
+digitPlace More = 4
+digitPlace End = 4
+digitPlace Failed = 4
+
 -- a state with what has been read: the sign and value of the number that is being read, and the numbers before it
 pub record Reading : Type 0 where
   pub state : State

@@ -25,11 +25,11 @@ use Rattle.paper.specs.Descriptor.{at as segmentAt}
 use Rattle.paper.specs.Wkt.{space, Place, coordinatesOf}
 use Rattle.paper.specs.declared.Segment.{Segment}
 use Rattle.wkt_read.specs.declared.automaton.State.{State}
-use Rattle.wkt_read.specs.declared.automaton.State.the-variants.{Due, Number, After, More, Failed}
+use Rattle.wkt_read.specs.declared.automaton.State.the-variants.{Start, Name, Named, Body, Empty, Line, Due, Signed, Number, After, More, End, Failed}
 use Rattle.wkt_read.specs.declared.Reader.{Reader}
 use Rattle.wkt_read.specs.declared.Tally.{Tally}
 use Rattle.wkt_read.specs.declared.Judged.{Judged}
-use Rattle.wkt_read.specs.Machine.{onward, markAfter, pastMark, sortOf, stepState, isSigned, inNumber, ended, failed, Reading, signedValue, finished, to, step, run, at, start, run-snoc, run-append}
+use Rattle.wkt_read.specs.Machine.{isSign, onward, markAfter, pastMark, stepState, digitPlace, isSigned, inNumber, ended, failed, Reading, signedValue, finished, to, step, run, at, start, run-snoc, run-append}
 use Rattle.wkt_read.specs.Sound.{Bound, Shape, loose, signed, counted as inside, shape-run, shape-start}
 
 -- ---- values
@@ -70,28 +70,24 @@ reads-other h b e f g =
     (λ t. cond t (record { state = stepState (h .state) b; negative = h .negative; value = grown (h .value) b }) (record { state = stepState (h .state) b; negative = isSigned (stepState (h .state) b) && eqb b minus; value = 0 }))
     (ap inNumber (sym e) ∙ f))
 
--- in a number: one more digit leaves the state as it is, and what follows is neither a number nor a sign
-module _ (h : Reader) (b c : ℕ) (e : h .state ≡ Number c) where
-  from : {t : Bool} → isDigit b ≡ t → cond t (Number c) (onward b (markAfter c) (pastMark c) (After c)) ≡ stepState (h .state) b
-  from f = sym (ap (λ s. stepState s b) e ∙ ap (λ t. cond t (Number c) (onward b (markAfter c) (pastMark c) (After c))) f)
+-- a digit where one may stand belongs to the coordinate that is due
+digit-goes : (s : State) (b : ℕ) → isDigit b ≡ true → digitPlace s < 4 → stepState s b ≡ Number (digitPlace s)
+digit-goes Start b e h = absurd (omega arith)
+digit-goes (Name k) b e h = absurd (omega arith)
+digit-goes Named b e h = absurd (omega arith)
+digit-goes Body b e h = absurd (omega arith)
+digit-goes (Empty k) b e h = absurd (omega arith)
+digit-goes Line b e h = absurd (omega arith)
+digit-goes (Due c) b e h = ap (λ t. cond t (Number c) (cond (isSign b) (Signed c) (cond (eqb b space) (Due c) Failed))) e
+digit-goes (Signed c) b e h = ap (λ t. cond t (Number c) Failed) e
+digit-goes (Number c) b e h = ap (λ t. cond t (Number c) (onward b (markAfter c) (pastMark c) (After c))) e
+digit-goes (After c) b e h = absurd (omega arith)
+digit-goes More b e h = absurd (omega arith)
+digit-goes End b e h = absurd (omega arith)
+digit-goes Failed b e h = absurd (omega arith)
 
-  pub reads-more : {v : ℕ} → isDigit b ≡ true → v ≡ grown (h .value) b → record { state = Number c; negative = h .negative; value = v } ≡ readOn h b
-  reads-more f g = reads-digit h b (from f) refl g
-
-  after-plain : (sort : ℕ) → eqb (sortOf More) sort ≡ false → eqb (sortOf (Due (c + 1))) sort ≡ false → eqb (sortOf (After c)) sort ≡ false → eqb (sortOf Failed) sort ≡ false
-      → eqb (sortOf (onward b (markAfter c) (pastMark c) (After c))) sort ≡ false
-  after-plain sort p q r x = go (eqb b (markAfter c)) (eqb c 3) (eqb b space)
-    where
-      go : (t u v : Bool) → eqb (sortOf (cond t (cond u More (Due (c + 1))) (cond v (After c) Failed))) sort ≡ false
-      go true true v = p
-      go true false v = q
-      go false u true = r
-      go false u false = x
-
-  pub reads-after : isDigit b ≡ false → {s : State} → s ≡ onward b (markAfter c) (pastMark c) (After c) → record { state = s; negative = false; value = 0 } ≡ readOn h b
-  reads-after f {s} g =
-      reads-other h b (g ∙ from f) (ap inNumber g ∙ after-plain 2 refl refl refl refl)
-      (sym (ap (λ t. t && eqb b minus) (ap isSigned g ∙ after-plain 1 refl refl refl refl)))
+pub reads-more : (h : Reader) (b : ℕ) {c v : ℕ} → isDigit b ≡ true → c ≡ digitPlace (h .state) → c < 4 → v ≡ grown (h .value) b → record { state = Number c; negative = h .negative; value = v } ≡ readOn h b
+reads-more h b e p l g = reads-digit h b (ap Number p ∙ sym (digit-goes (h .state) b e (omega (arith, p, l)))) refl g
 
 pub shown-step : (r : Reading) (b : ℕ) → shown (step r b) ≡ readOn (shown r) b
 shown-step r b = go (stepState (r .state) b) (inNumber (stepState (r .state) b))

@@ -4,7 +4,7 @@ ghost use Prim.Native.Nat.{_≤_, _<_};
 ghost use lib.ListN.{getD};
 ghost use Rattle.paper.specs.Lines.{isDigit};
 ghost use Rattle.paper.specs.Wkt.{capital as Capital};
-ghost use Rattle.wkt_read.specs.Machine.{name, empty, isSign, onward as Onward, markAfter, pastMark, stepState, sortOf, inNumber, isSigned, ended as Ended, failed as Failed};
+ghost use Rattle.wkt_read.specs.Machine.{name, empty, isSign, onward as Onward, markAfter, pastMark, stepState, sortOf, digitPlace, inNumber, isSigned, ended as Ended, failed as Failed};
 ghost use Rattle.wkt_read.specs.Sound.{Bound};
 
 // What a text has come to: the token that is due, or how much of it has been read.
@@ -182,7 +182,7 @@ fn past_mark(c: usize) -> State
     State::Due(c + 1)
 }
 
-pub fn on_after(c: usize, b: usize) -> State
+fn on_after(c: usize, b: usize) -> State
     requires { ⌜ c ≤ 3 ⌝ }
     ensures { λ r. ⌜ r ≡ stepState (State.After c) b ⌝ }
 {
@@ -283,4 +283,25 @@ pub fn failed(state: State) -> bool
     ensures { λ r. ⌜ r ≡ Failed state ⌝ }
 {
     sort(state) == 4
+}
+
+// The coordinate that a digit would belong to, or 4 where none may stand.
+pub fn digit_place(state: State) -> usize
+    ensures { λ r. ⌜ r ≡ digitPlace state ⌝ }
+{
+    match state {
+        State::Start => 4,
+        State::Name(_) => 4,
+        State::Named => 4,
+        State::Body => 4,
+        State::Empty(_) => 4,
+        State::Line => 4,
+        State::Due(c) => c,
+        State::Signed(c) => c,
+        State::Number(c) => c,
+        State::After(_) => 4,
+        State::More => 4,
+        State::End => 4,
+        State::Failed => 4,
+    }
 }

@@ -10,7 +10,6 @@ ghost use mir.Syntax.{w32, w64};
 ghost use mir.Val.{SFits};
 ghost use Rattle.paper.specs.Results.{over};
 ghost use Rattle.wkt_read.specs.Machine.{signedValue, ended, run, start};
-ghost use Rattle.wkt_read.specs.declared.automaton.State.{State};
 ghost use Rattle.wkt_read.specs.Sound.{Bound};
 ghost use Rattle.wkt_read.specs.Tally.{grown as Grown, readOn, endsNumber, counted as Counted, clipped};
 ghost use Rattle.wkt_read.specs.Passes.{IsJudged, Kept};
@@ -66,25 +65,6 @@ fn grown(value: usize, b: usize) -> usize
     536870913
 }
 
-// After a digit of coordinate c: one more digit, or what follows the number.
-fn read_in_number(reader: Reader, c: usize, b: usize) -> Reader
-    requires { ⌜ (reader .state ≡ State.Number c) × (c ≤ 3) × (reader .value ≤ 536870913) × (b ≤ 255) ⌝ }
-    ensures { λ r. ⌜ r ≡ readOn reader b ⌝ }
-{
-    if automaton::is_digit(b) {
-        return Reader {
-            state: State::Number(c),
-            negative: reader.negative,
-            value: grown(reader.value, b),
-        };
-    }
-    Reader {
-        state: automaton::on_after(c, b),
-        negative: false,
-        value: 0,
-    }
-}
-
 fn read_other(reader: Reader, b: usize) -> Reader
     requires { ⌜ Bound (reader .state) × (reader .value ≤ 536870913) × (b ≤ 255) ⌝ }
     ensures { λ r. ⌜ r ≡ readOn reader b ⌝ }
@@ -111,8 +91,13 @@ fn read_on(reader: Reader, b: usize) -> Reader
     ensures { λ r. ⌜ r ≡ readOn reader b ⌝ }
 {
     let before = reader.state;
-    if let State::Number(c) = before {
-        return read_in_number(reader, c, b);
+    let c = automaton::digit_place(before);
+    if automaton::is_digit(b) & (c < 4) {
+        return Reader {
+            state: State::Number(c),
+            negative: reader.negative,
+            value: grown(reader.value, b),
+        };
     }
     read_other(reader, b)
 }

@@ -1,21 +1,28 @@
 -- `wkt_read::read_on` meets its contract. Assumes nothing.
-use mathlib.Core.Path.{subst}
-use Rattle.wkt_read.specs.Sound.{Bound}
+use mathlib.Core.Path.{sym, _∙_}
+use borrow.Author.Tests.{ltb-true}
+use Rattle.lists.specs.Tests.{and-true}
+use Rattle.wkt_read.specs.Tally.{reads-more}
 use borrow.Author.Needs.{needs}
 use Rattle.wkt_read.proofs.read_on.Statement.{statement}
 use Rattle.wkt_read.proofs.read_on.Tie as tie
 
-enum-known-before : tie.Need-enum-known-before
-enum-known-before c = search needs
+digit-place-requires : tie.Need-digit-place-requires
+digit-place-requires c κs = search needs
 
-read-in-number-requires : tie.Need-read-in-number-requires
-read-in-number-requires c κs =
-    let e = c .before .before2 .given .1 in
-    let s = c .before .before .before in
-    (e, subst Bound e (s .pre .0), s .pre .1, s .pre .2)
+is-digit-requires : tie.Need-is-digit-requires
+is-digit-requires c κs = search needs
+
+grown-requires : tie.Need-grown-requires
+grown-requires c κs = search needs
 
 returns : tie.Need-returns
-returns c = search needs
+returns c =
+    let d = c .before .before in
+    let p = d .before in
+    let a = p .before .args in
+    let both = and-true _ _ (c .before .if1 .taken) in
+    reads-more (a .reader) (a .b) (sym (d .is-digit .ensures) ∙ both .0) (p .digit-place .ensures) (ltb-true _ _ (both .1)) (c .grown .ensures)
 
 read-other-requires : tie.Need-read-other-requires
 read-other-requires c κs = search needs
@@ -24,4 +31,4 @@ returns-2 : tie.Need-returns-2
 returns-2 c = search needs
 
 pub read-on-spec : {M : Type 1} → statement M
-read-on-spec = tie.close (tie.spec enum-known-before read-in-number-requires returns read-other-requires returns-2)
+read-on-spec = tie.close (tie.spec digit-place-requires is-digit-requires grown-requires returns read-other-requires returns-2)
