@@ -4,6 +4,7 @@ ghost use mathlib.Core.Path.{_≡_};
 ghost use Rattle.paper.specs.Answers.{badPlace};
 ghost use Rattle.paper.specs.Hosts.{hostCell, hostWords, HostMeet};
 ghost use Rattle.paper.specs.Results.{Scanned, built, queried};
+ghost use Rattle.paper.specs.Wkt.{Read, written};
 ghost use Rattle.hosts.specs.Answered.{cellAnswer};
 use paper::Descriptor;
 use paper::Reply;
@@ -202,4 +203,35 @@ pub extern "C" fn kalinosz_query(
     ensures { λ r. ⌜ (r, now (numbers .exit)) ≡ queried (now (index .entry)) (record { a = a; b = b; c = c; d = d }) (now (numbers .entry)) ⌝ }
 {
     marks::query(index, window_of(a, b, c, d), numbers)
+}
+
+// ---- tables as text (request E3)
+
+#[no_mangle]
+pub extern "C" fn kalinosz_read_wkt(text: &[u8], cells: &mut [i32]) -> Reply
+    ensures { λ r. ⌜ Read (now (text .entry)) (now (cells .entry)) (r, now (cells .exit)) ⌝ }
+{
+    wkt_table::read(text, cells)
+}
+
+#[no_mangle]
+pub extern "C" fn kalinosz_write_wkt(
+    table: &[i32],
+    kind: i64,
+    base: i64,
+    lower: i64,
+    n: i64,
+    segment_stride: i64,
+    coordinate_stride: i64,
+    text: &mut [u8],
+) -> Reply
+    ensures { λ r. ⌜ (r, now (text .exit)) ≡ written (now (table .entry))
+        (record { kind = kind; base = base; lower = lower; extent = n; «segment_stride» = «segment_stride»; «coordinate_stride» = «coordinate_stride» })
+        (now (text .entry)) ⌝ }
+{
+    wkt_table::write(
+        table,
+        described(kind, base, lower, n, segment_stride, coordinate_stride),
+        text,
+    )
 }

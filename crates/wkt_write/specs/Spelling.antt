@@ -34,6 +34,13 @@ pub name-bytes : bytes "MULTILINESTRING " ≡ name
 unfolding bytes
 name-bytes = refl
 
+abbrev pub empty : List ℕ
+empty = 69 ∷ 77 ∷ 80 ∷ 84 ∷ 89 ∷ []
+
+pub empty-bytes : bytes "EMPTY" ≡ empty
+unfolding bytes
+empty-bytes = refl
+
 -- ---- lengths
 pub line-length : (d : Descriptor) (table : List ℤ) (i : ℕ)
     → length (lineOf d table i) ≡ 6 + (length (decimal (coordinateOf d table i 0)) + (length (decimal (coordinateOf d table i 1)) + (length (decimal (coordinateOf d table i 2)) + length (decimal (coordinateOf d table i 3)))))

@@ -11,7 +11,7 @@ ghost use Rattle.paper.specs.Lines.{decimal};
 ghost use Rattle.paper.specs.Wkt.{space, comma, furtherText, bodyText, textOf};
 ghost use Rattle.table.specs.Cells.{Held};
 ghost use Rattle.texts.specs.Written.{Written};
-ghost use Rattle.wkt_write.specs.Spelling.{coordinateOf, pointOf, lineOf, name, linesLength, firsts};
+ghost use Rattle.wkt_write.specs.Spelling.{coordinateOf, pointOf, lineOf, linesLength, firsts};
 use paper::Descriptor;
 
 // ---- how many bytes
@@ -80,45 +80,16 @@ fn put_byte(out: &mut [u8], at: usize, b: u8) -> usize
     at + 1
 }
 
-fn put_name(out: &mut [u8]) -> usize
-    requires { ⌜ 16 ≤ length (now out) ⌝ }
-    ensures { λ r. ⌜ Written name 0 (now (out .entry)) r (now (out .exit)) ⌝ }
+fn put_word(out: &mut [u8], at: usize, word: &[u8]) -> usize
+    requires { ⌜ at + length (now word) ≤ length (now out) ⌝ }
+    ensures { λ r. ⌜ Written (now (word .entry)) at (now (out .entry)) r (now (out .exit)) ⌝ }
 {
-    let letters: [u8; 16] = [
-        77,
-        85,
-        76,
-        84,
-        73,
-        76,
-        73,
-        78,
-        69,
-        83,
-        84,
-        82,
-        73,
-        78,
-        71,
-        32,
-    ];
     let mut i = 0;
-    while i < 16 {
-        out[i] = letters[i];
+    while i < word.len() {
+        out[at + i] = word[i];
         i += 1;
     }
-    16
-}
-
-fn put_empty(out: &mut [u8], at: usize) -> usize
-    requires { ⌜ at + 5 ≤ length (now out) ⌝ }
-    ensures { λ r. ⌜ Written (bodyText []) at (now (out .entry)) r (now (out .exit)) ⌝ }
-{
-    let e = put_byte(out, at, 69);
-    let m = put_byte(out, e, 77);
-    let p = put_byte(out, m, 80);
-    let t = put_byte(out, p, 84);
-    put_byte(out, t, 89)
+    at + word.len()
 }
 
 fn put_coordinate(
@@ -194,7 +165,7 @@ fn put_body(out: &mut [u8], at: usize, table: &[i32], descriptor: Descriptor, n:
     ensures { λ r. ⌜ Written (bodyText (segmentsOf descriptor (now (table .entry)))) at (now (out .entry)) r (now (out .exit)) ⌝ }
 {
     if n == 0 {
-        return put_empty(out, at);
+        return put_word(out, at, b"EMPTY");
     }
     let open = put_byte(out, at, b'(');
     let first = put_line(out, open, table, descriptor, 0);
@@ -205,6 +176,6 @@ pub fn put_text(out: &mut [u8], table: &[i32], descriptor: Descriptor, n: usize)
     requires { ⌜ (n ≡ sizeOf descriptor) × Held (pos (length (now table))) descriptor × (length (textOf (segmentsOf descriptor (now table))) ≤ length (now out)) ⌝ }
     ensures { λ r. ⌜ Written (textOf (segmentsOf descriptor (now (table .entry)))) 0 (now (out .entry)) r (now (out .exit)) ⌝ }
 {
-    let body = put_name(out);
+    let body = put_word(out, 0, b"MULTILINESTRING ");
     put_body(out, body, table, descriptor, n)
 }
