@@ -11,7 +11,7 @@ use lib.ListN.{length, take, drop, getD, set, length-map, length-take, length-ap
 use lib.Seq.{take-suc, take-all, length-take-le}
 use borrow.Author.Tests.{eqb-true}
 use Rattle.lists.specs.Tests.{by-test, clash}
-use Rattle.lists.specs.Choosing.{over-step, over-length}
+use Rattle.lists.specs.Choosing.{filled-all, filled-length, filled-more}
 use Rattle.paper.specs.Results.{over}
 use Rattle.paper.specs.Wkt.{Place}
 use Rattle.wkt_read.specs.declared.automaton.State.{State}
@@ -104,6 +104,15 @@ module _ {text : List ℕ} {h : Reader} {t : Tally} {i : ℕ} (j : Judging text 
       }
 
 -- ---- filling
+
+over-length : (xs cells : List ℤ) → length xs ≤ length cells → length (over xs cells) ≡ length cells
+over-length xs cells h = ap length (sym (filled-all xs cells h)) ∙ filled-length xs cells
+
+over-step : (xs cells : List ℤ) (z : ℤ) → length xs < length cells → set (over xs cells) (length xs) z ≡ over (xs ++ (z ∷ [])) cells
+over-step xs cells z h =
+    ap (λ l. set l (length xs) z) (sym (filled-all xs cells (omega arith)))
+    ∙ filled-more xs z cells
+    ∙ filled-all (xs ++ (z ∷ [])) cells (omega (arith, length-append xs (z ∷ [])))
 
 -- the cells after a byte: a number that has ended is written where cells are filled, and otherwise nothing is
 pub record Kept (fills : Bool) (h : Reader) (s : State) (k : ℕ) (before after : List ℤ) : Type 0 where
