@@ -12,8 +12,8 @@ use Rattle.paper.specs.Meeting.{Meets}
 use Rattle.paper.specs.Words.{nodes, levelWords, levelsWords, queueWordsTo, blockWordsTo, indexWords}
 use Rattle.paper.specs.Walk.{searchTo, slotsWalk, nodeAt, nodeWalk, queueAt, queueWalkTo, blockAt, blockWalkTo, walk, step, run, walkOf}
 use Rattle.paper.specs.Results.{built, listing, queried, scanned}
-use Rattle.paper.specs.Lines.{parts, withoutEmptyLast, valueFrom, numbersIn, lineOf, decimalTo, tabbed, read, fromLine, program}
-use Rattle.paper.specs.Rows.{Row, build, ask, scan, prints, Says as CallSays, holds as callHolds, row-says, bytes, cells, sevens, descriptor, segment, window, reply}
+use Rattle.paper.specs.Lines.{parts, withoutEmptyLast, valueFrom, numbersIn, lineOf, decimalTo, tabbed, read, fromLine, program, bytes}
+use Rattle.paper.specs.Rows.{Row, build, ask, scan, prints, Says as CallSays, holds as callHolds, row-says, cells, sevens, descriptor, segment, window, reply}
 use Rattle.paper.specs.declared.Segment.{Segment}
 use Rattle.paper.specs.declared.Window.{Window}
 use Rattle.meeting.specs.Determined.{tested, decided}

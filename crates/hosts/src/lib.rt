@@ -229,9 +229,6 @@ pub extern "C" fn kalinosz_write_wkt(
         (record { kind = kind; base = base; lower = lower; extent = n; «segment_stride» = «segment_stride»; «coordinate_stride» = «coordinate_stride» })
         (now (text .entry)) ⌝ }
 {
-    wkt_table::write(
-        table,
-        described(kind, base, lower, n, segment_stride, coordinate_stride),
-        text,
-    )
+    let descriptor = described(kind, base, lower, n, segment_stride, coordinate_stride);
+    wkt_table::write(table, descriptor, text)
 }

@@ -11,7 +11,7 @@ use Rattle.paper.specs.Words.{nodes, levelWords, levelsWords, queueWords
 use Rattle.paper.specs.Walk.{searchTo, slotsWalk, nodeAt, nodeWalk, queueAt, queueWalkTo, blockAt, blockWalkTo, walk, step, run, walkOf}
 use Rattle.paper.specs.Results.{built, listing, queried, scanned}
 use Rattle.paper.specs.Hosts.{hostCell, hostWords, hostMeet}
-use Rattle.paper.specs.Lines.{parts, withoutEmptyLast, valueFrom, numbersIn, lineOf, decimalTo, tabbed, read, fromLine, program}
+use Rattle.paper.specs.Lines.{parts, withoutEmptyLast, valueFrom, numbersIn, lineOf, decimalTo, tabbed, read, fromLine, program, bytes}
 use Rattle.paper.specs.Rows.{
   Row,
   build,
@@ -25,7 +25,6 @@ use Rattle.paper.specs.Rows.{
   prints,
   All,
   every,
-  bytes,
   cells,
   sevens,
   zeros,

@@ -7,7 +7,6 @@ use Prim.Native.Nat.{ℕ}
 use lib.Dec.{T, eqb, eqb→eq}
 use lib.IntN.{ℤ, pos, negsuc, negℤ}
 use lib.ListN.{getD, replicate}
-use Prim.Native.Char.{code}
 use Prim.Native.String.{String}
 use Rattle.lists.specs.Plain.{same}
 use Rattle.lists.specs.Tests.{fst-of, snd-of}
@@ -15,7 +14,7 @@ use Rattle.lists.specs.Orders.{same-equal}
 use Rattle.paper.specs.Words.{W}
 use Rattle.paper.specs.Results.{Result, built, queried, scanned}
 use Rattle.paper.specs.Hosts.{hostCell, hostWords, hostMeet}
-use Rattle.paper.specs.Lines.{minus, parts, valueFrom, program}
+use Rattle.paper.specs.Lines.{minus, parts, valueFrom, program, bytes}
 use Rattle.paper.specs.Corners.{weighed}
 use Rattle.paper.specs.declared.Descriptor.{Descriptor}
 use Rattle.paper.specs.declared.Segment.{Segment}
@@ -141,10 +140,6 @@ every [] t = tt
 every (r ∷ rs) t = let b = both (holds r) (all rs) t in (row-says r (b .0), every rs (b .1))
 
 -- ---- short forms for rows: a text stands for its bytes, or for the whole numbers in it, parted by single spaces
-
-unfoldable pub bytes : String → List ℕ
-bytes String.[] = []
-bytes (String._∷_ c s) = code c ∷ bytes s
 
 abbrev pub signed : List ℕ → ℤ
 signed [] = pos 0

@@ -11,8 +11,7 @@ use Rattle.lists.specs.Plain.{toNat}
 use Rattle.paper.specs.Descriptor.{segmentsOf}
 use Rattle.paper.specs.Answers.{Answer, badKind, badLower, badExtent, badStrides, badCells, badCoordinate, badBuffer, judged, refused, done}
 use Rattle.paper.specs.Results.{Result, over}
-use Rattle.paper.specs.Lines.{isDigit, valueFrom, minus, decimal}
-use Rattle.paper.specs.Rows.{bytes}
+use Rattle.paper.specs.Lines.{isDigit, valueFrom, minus, decimal, bytes}
 use Rattle.paper.specs.declared.Descriptor.{Descriptor}
 use Rattle.paper.specs.declared.Segment.{Segment}
 use Rattle.paper.specs.declared.Reply.{Reply}

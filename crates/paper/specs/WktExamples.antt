@@ -4,8 +4,8 @@ use mathlib.Core.Path.{_≡_, refl}
 use Prim.Native.String.{String}
 use Rattle.lists.specs.Plain.{filter, positions, any, joined}
 use Rattle.paper.specs.Descriptor.{segmentsOf, addressed}
-use Rattle.paper.specs.Lines.{parts, valueFrom, decimalTo}
-use Rattle.paper.specs.Rows.{bytes, cells, descriptor, reply}
+use Rattle.paper.specs.Lines.{parts, valueFrom, decimalTo, bytes}
+use Rattle.paper.specs.Rows.{cells, descriptor, reply}
 use Rattle.paper.specs.Wkt.{furtherText, written}
 
 -- a table, its descriptor, and a lent text: the reply, and the text afterwards

@@ -12,8 +12,7 @@ use lib.Seq.{drop-cons}
 use borrow.Author.Tests.{eqb-true, eqb-false}
 use Rattle.lists.specs.Tests.{by-test}
 use Rattle.lists.specs.Every.{All}
-use Rattle.paper.specs.Lines.{isDigit, digit0, minus, valueFrom}
-use Rattle.paper.specs.Rows.{bytes}
+use Rattle.paper.specs.Lines.{isDigit, digit0, minus, valueFrom, bytes}
 use Rattle.paper.specs.Wkt.{space, opening, closing, plus, comma, capital, Token, word, number, mark, furtherTokens, tokensOf, Digits, one, more, Spells, eitherCase, unsigned, positive, negative, itself, Kind, aWord, aNumber, aMark, kindOf, parting, spaces, Spelled, end, then, Accepted, coordinatesOf}
 use Rattle.paper.specs.declared.Segment.{Segment}
 use Rattle.wkt_read.specs.declared.automaton.State.{State}

@@ -7,8 +7,8 @@ use Prim.Native.String.{String}
 use lib.IntN.{ℤ, pos}
 use lib.ListN.{replicate}
 use Rattle.lists.specs.Plain.{filter, positions}
-use Rattle.paper.specs.Rows.{bytes, cells, sevens, reply}
-use Rattle.paper.specs.Lines.{parts, valueFrom}
+use Rattle.paper.specs.Rows.{cells, sevens, reply}
+use Rattle.paper.specs.Lines.{parts, valueFrom, bytes}
 use Rattle.paper.specs.Wkt.{Read, coordinatesOf}
 use Rattle.wkt_read.specs.Machine.{run}
 use Rattle.wkt_read.specs.Decision.{grouped, placeFrom, read-decided}

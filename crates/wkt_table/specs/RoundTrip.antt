@@ -15,8 +15,7 @@ use Rattle.lists.specs.Every.{All}
 use Rattle.paper.specs.Descriptor.{segmentsOf}
 use Rattle.paper.specs.Answers.{Answer, badExtent, badCoordinate, badBuffer, refused, done}
 use Rattle.paper.specs.Results.{Result, over}
-use Rattle.paper.specs.Lines.{isDigit, digit0, minus, valueFrom, decimalTo, decimal}
-use Rattle.paper.specs.Rows.{bytes}
+use Rattle.paper.specs.Lines.{isDigit, digit0, minus, valueFrom, decimalTo, decimal, bytes}
 use Rattle.paper.specs.Wkt.{space, opening, closing, comma, Token, word, number, mark, lineTokens, furtherTokens, bodyTokens, Digits, one, more, Spells, eitherCase, unsigned, negative, itself, aWord, aNumber, aMark, spaces, Spelled, end, then, Accepted, coordinatesOf, readerOrder, Read, accepts, lineText, furtherText, bodyText, textOf, writerOrder, written, ReadsBack, newText}
 use Rattle.paper.specs.declared.Descriptor.{Descriptor}
 use Rattle.paper.specs.declared.Reply.{Reply}

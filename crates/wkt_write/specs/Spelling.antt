@@ -9,8 +9,7 @@ use lib.ListN.{length, drop, getD, length-append, drop-of-length-le}
 use lib.Seq.{drop-cons}
 use Rattle.lists.specs.Plain.{toNat, positions}
 use Rattle.paper.specs.Descriptor.{cellOf, sizeOf, segmentOf, segmentsOf}
-use Rattle.paper.specs.Lines.{decimal}
-use Rattle.paper.specs.Rows.{bytes}
+use Rattle.paper.specs.Lines.{decimal, bytes}
 use Rattle.paper.specs.Wkt.{space, opening, closing, comma, pointText, lineText, furtherText, bodyText, textOf}
 use Rattle.paper.specs.declared.Descriptor.{Descriptor}
 use Rattle.paper.specs.declared.Segment.{Segment}

@@ -6,7 +6,7 @@ use native.Mathlib.Omega.{arith}
 use lib.ListN.{length, drop}
 use Rattle.lists.specs.Parts.{put}
 use Rattle.paper.specs.Descriptor.{segmentsOf}
-use Rattle.paper.specs.Rows.{bytes}
+use Rattle.paper.specs.Lines.{bytes}
 use Rattle.paper.specs.Wkt.{opening, furtherText, bodyText}
 use Rattle.texts.specs.Written.{Written}
 use Rattle.wkt_write.specs.Spelling.{lineOf, empty, empty-bytes, body-some, empty-table}
