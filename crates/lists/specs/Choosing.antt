@@ -1,5 +1,6 @@
 -- The positions 0 to n − 1 that pass a test, one position more at a time, as a loop goes: whether there is any, which they are, the first of them.
--- Use: `any-next`, `filter-next` and `filled-more` for a loop's invariant; `First` for a search from the front. Assumes nothing.
+-- Also of numbered parts, one after the other: `parts-none`, `parts-first`.
+-- Use: `any-next` and `filter-next` for a loop's invariant; `First` for a search from the front. Assumes nothing.
 use mathlib.Core.Path.{_≡_, refl, sym, ap, ap₂, _∙_, subst}
 use mathlib.Core.Bool.{Bool, true, false, not, _||_, cond}
 use mathlib.Core.List.{List, [], _∷_, _++_, map, map-append}
@@ -9,8 +10,7 @@ use native.Mathlib.Numerals.{add-one}
 use native.Mathlib.Nat.{not-suc-le-zero, lt-irrefl, le-of-lt, le-refl}
 use native.Mathlib.Decide.{decLt}
 use lib.Dec.{T, eqb, ltb}
-use lib.ListN.{length, take, drop, getD, set, length-append, length-take, length-drop, length-map, List·getD-append}
-use lib.Seq.{set-at, set-out, drop-cons, append-snoc, take-all, take-nil, take-append-le}
+use lib.ListN.{length, getD, length-append, length-map, List·getD-append}
 use borrow.Author.Tests.{lt-ltb, le-ltb}
 use Rattle.lists.specs.Plain.{positions, filter, count, any, joined}
 use Rattle.lists.specs.Tests.{gate, clash, or-assoc, or-none, or-left, or-right}
@@ -189,40 +189,3 @@ pub positions-sorted : (n : ℕ) → Sorted (λ p q. p < q) (positions n)
 unfolding positions
 positions-sorted zero = Sorted.none
 positions-sorted (suc n) = sorted-snoc (positions-sorted n) (positions-below n n (le-refl n))
-
--- ---- cells with others written over their front, as many as there is room for
-module _ {A : Type 0} where
-  abbrev pub filled : List A → List A → List A
-  filled new cells = take (length cells) new ++ drop (length (take (length cells) new)) cells
-
-  pub filled-all : (new cells : List A) → length new ≤ length cells → filled new cells ≡ new ++ drop (length new) cells
-  filled-all new cells h = ap (λ xs. xs ++ drop (length xs) cells) (take-all (length cells) new h)
-
-  pub filled-length : (new cells : List A) → length (filled new cells) ≡ length cells
-  filled-length new cells =
-      let t = take (length cells) new in
-      omega (arith, length-append t (drop (length t) cells), length-take (length cells) new, length-drop (length t) cells)
-
-  -- nothing is written yet
-  pub filled-none : (cells : List A) → filled [] cells ≡ cells
-  filled-none cells = ap (λ xs. xs ++ drop (length xs) cells) (take-nil (length cells))
-
-  -- one more, in the cell after the last where there is one
-  pub filled-more : (xs : List A) (a : A) (cells : List A) → set (filled xs cells) (length xs) a ≡ filled (xs ++ (a ∷ [])) cells
-  filled-more xs a cells = go (decLt (length xs) (length cells))
-    where
-      g : length (xs ++ (a ∷ [])) ≡ suc (length xs)
-      g = omega (arith, length-append xs (a ∷ []))
-
-      go : Dec (length xs < length cells) → set (filled xs cells) (length xs) a ≡ filled (xs ++ (a ∷ [])) cells
-      go (yes h) =
-          ap (λ ys. set ys (length xs) a) (filled-all xs cells (omega arith))
-          ∙ ap (λ ys. set (xs ++ ys) (length xs) a) (drop-cons cells (length xs) a h)
-          ∙ set-at xs (getD cells (length xs) a) (drop (suc (length xs)) cells) a (length xs) refl
-          ∙ sym (append-snoc xs a (drop (suc (length xs)) cells))
-          ∙ ap (λ (k : ℕ). xs ++ (a ∷ []) ++ drop k cells) (sym g)
-          ∙ sym (filled-all (xs ++ (a ∷ [])) cells (omega (arith, g)))
-      go (no h) =
-          let full : length cells ≤ length xs = omega arith in
-          set-out (filled xs cells) (length xs) a (omega (arith, filled-length xs cells))
-          ∙ ap (λ ys. ys ++ drop (length ys) cells) (sym (take-append-le (length cells) xs (a ∷ []) full))

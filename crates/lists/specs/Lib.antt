@@ -13,3 +13,4 @@ pub mod Digits
 pub mod Parts
 pub mod Searching
 pub mod Choosing
+pub mod Filling

@@ -9,7 +9,7 @@ use lib.IntN.{ℤ, pos}
 use lib.ListN.{length, take, drop, length-map}
 use lib.Seq.{take-at}
 use Rattle.lists.specs.Tests.{clash}
-use Rattle.lists.specs.Choosing.{filled, filled-all, filled-length}
+use Rattle.lists.specs.Filling.{filled, filled-all, filled-length}
 use Rattle.paper.specs.Descriptor.{numberOf}
 use Rattle.paper.specs.Answers.{badWindow, refused, done}
 use Rattle.paper.specs.Orders.{badIndex, isStopped, dueBy}

@@ -19,7 +19,7 @@ use Rattle.paper.specs.declared.Segment.{Segment}
 use Rattle.paper.specs.declared.Window.{Window}
 use Rattle.paper.specs.declared.Reply.{Reply}
 use Rattle.paper.specs.Corners.{weighed}
-use Rattle.lists.specs.Choosing.{filled, filled-all}
+use Rattle.lists.specs.Filling.{filled, filled-all}
 use borrow.Author.Tests.{ltb-false}
 use Rattle.meeting.specs.Determined.{tested, decided, tested-is}
 use Rattle.scan.specs.Listing.{metPositions, metNumbers}

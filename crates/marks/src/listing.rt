@@ -3,7 +3,7 @@ ghost use mathlib.Core.Path.{_≡_};
 ghost use Prim.Native.Nat.{_<_, _≤_};
 ghost use lib.Dec.{ltb};
 ghost use lib.ListN.{length, take};
-ghost use Rattle.lists.specs.Choosing.{filled};
+ghost use Rattle.lists.specs.Filling.{filled};
 ghost use Rattle.paper.specs.Descriptor.{sizeOf};
 ghost use Rattle.paper.specs.Results.{over, numbersOf};
 ghost use Rattle.paper.specs.Walk.{word, walkOf};

@@ -166,7 +166,8 @@ queryRows =
     ∷ query (cells "1 1 2 -1 0 2 6 2 0 0 0 1 0 0 0 0 0 0") (window "1 0 0 0") [] (reply "9 0 0 0", [])
     ∷ query (cells "1 1 1 1 0 2 6 2 0 0 0 1 0 0 0 0 0 0") (window "1 0 0 0") [] (reply "9 0 0 0", [])
     ∷ query (cells "1 1 1 0 0 2 6 2 0 0 0 1 0 0 0 0 0") (window "1 0 0 0") [] (reply "9 0 0 0", [])
-    -- 8 with too few cells; 10 with too few cells
+    -- 8 with a spoiled position word; 8 with too few cells; 10 with too few cells
+    ∷ query (cells "1 1 1 0 0 2 6 2 1 0 0 1 0 0 0 0 0 0") (window "1 0 0 0") [] (reply "8 0 0 0", [])
     ∷ query (cells "1 1 1 0 0 2 6 2 0 0 0 1 0 0 0 0 0 0") (window "1 0 0 0") [] (reply "8 0 0 0", [])
     ∷ query (cells "1 1 1 0 0 2 6 2 1 0 0 1 0 0 0 0 0 0") (window "3 5 1 3") [] (reply "10 0 0 0", [])
     -- 10: the position word; every cell keeps its value

@@ -88,8 +88,8 @@ module _ {B : Type 0} (rest : List Answer) (cells : B) (done : Reply × B) where
 -- ---- an order over a table
 
 module _ (table : List ℤ) (d : Descriptor) where
-  abbrev cells12 : Answer
-  cells12 = badCells (pos (length table)) d
+  abbrev outsideAnswer : Answer
+  outsideAnswer = badCells (pos (length table)) d
 
   all-numbered : All (λ x. 1 ≤ x .number) (tableOrder table d)
   all-numbered = table-numbered (pos (length table)) d All.none
@@ -108,43 +108,36 @@ module _ (table : List ℤ) (d : Descriptor) where
 
   -- the reply to a table that one of the five refuses: 12 has its place and count, the others have none
   module _ (number : ℕ) (e : number ≡ firstGiven (tableOrder table d)) where
-    abbrev five : (k l n s : Bool) → List Answer
-    five k l n s = answer 1 k ∷ answer 2 l ∷ answer 3 n ∷ answer 4 s ∷ cells12 ∷ []
-
-    twelve : cells12 .number ≡ 12
+    twelve : outsideAnswer .number ≡ 12
     twelve = number-at-cell 12 (outsideCells (pos (length table)) d)
 
-    pub outside-given : number ≡ 12 → (badExtent (d .extent) .given ≡ false) × (badStrides d .given ≡ false) × (cells12 .given ≡ true)
-    outside-given h = go (badKind (d .kind) .given) (badLower (d .kind) (d .lower) .given) (badExtent (d .extent) .given) (badStrides d .given) (cells12 .given) (sym h ∙ e)
+    -- 12 says that the four before it are not given
+    outside-alone : number ≡ 12
+        → (badKind (d .kind) .given ≡ false) × (badLower (d .kind) (d .lower) .given ≡ false) × (badExtent (d .extent) .given ≡ false) × (badStrides d .given ≡ false) × (outsideAnswer .given ≡ true)
+    outside-alone h = go (badKind (d .kind) .given) (badLower (d .kind) (d .lower) .given) (badExtent (d .extent) .given) (badStrides d .given) (outsideAnswer .given) (sym h ∙ e)
       where
-        go : (k l n s c : Bool) → 12 ≡ cond k 1 (cond l 2 (cond n 3 (cond s 4 (cond c (cells12 .number) 0)))) → (n ≡ false) × (s ≡ false) × (c ≡ true)
+        go : (k l n s c : Bool) → 12 ≡ cond k 1 (cond l 2 (cond n 3 (cond s 4 (cond c (outsideAnswer .number) 0)))) → (k ≡ false) × (l ≡ false) × (n ≡ false) × (s ≡ false) × (c ≡ true)
         go true l n s c q = absurd (omega (arith, q))
         go false true n s c q = absurd (omega (arith, q))
         go false false true s c q = absurd (omega (arith, q))
         go false false false true c q = absurd (omega (arith, q))
-        go false false false false true q = (refl, refl, refl)
+        go false false false false true q = (refl, refl, refl, refl, refl)
         go false false false false false q = absurd (omega (arith, q))
 
-    pub by-outside : (other : Reply) → number ≡ 12 → refused cells12 ≡ judged (tableOrder table d) refused other
-    by-outside other h = go (badKind (d .kind) .given) (badLower (d .kind) (d .lower) .given) (badExtent (d .extent) .given) (badStrides d .given) (cells12 .given) (sym h ∙ e)
-      where
-        go : (k l n s c : Bool) → 12 ≡ cond k 1 (cond l 2 (cond n 3 (cond s 4 (cond c (cells12 .number) 0))))
-            → refused cells12 ≡ cond k (refused (answer 1 k)) (cond l (refused (answer 2 l)) (cond n (refused (answer 3 n)) (cond s (refused (answer 4 s)) (cond c (refused cells12) other))))
-        go true l n s c q = absurd (omega (arith, q))
-        go false true n s c q = absurd (omega (arith, q))
-        go false false true s c q = absurd (omega (arith, q))
-        go false false false true c q = absurd (omega (arith, q))
-        go false false false false true q = refl
-        go false false false false false q = absurd (omega (arith, q))
+    pub outside-given : number ≡ 12 → (badExtent (d .extent) .given ≡ false) × (badStrides d .given ≡ false) × (outsideAnswer .given ≡ true)
+    outside-given h = let o = outside-alone h in (o .2, o .3, o .4)
+
+    pub by-outside : (other : Reply) → number ≡ 12 → refused outsideAnswer ≡ judged (tableOrder table d) refused other
+    by-outside other h = let o = outside-alone h in rw (o .0, o .1, o .2, o .3, o .4) refl
 
     pub by-others : (other : Reply) → (number ≡ 0 → ⊥) → (number ≡ 12 → ⊥) → refused (refusalAt number 0 0) ≡ judged (tableOrder table d) refused other
-    by-others other z h = ap (λ m. refused (refusalAt m 0 0)) e ∙ go (badKind (d .kind) .given) (badLower (d .kind) (d .lower) .given) (badExtent (d .extent) .given) (badStrides d .given) (cells12 .given) (λ q. z (e ∙ q)) (λ q. h (e ∙ q))
+    by-others other z h = ap (λ m. refused (refusalAt m 0 0)) e ∙ go (badKind (d .kind) .given) (badLower (d .kind) (d .lower) .given) (badExtent (d .extent) .given) (badStrides d .given) (outsideAnswer .given) (λ q. z (e ∙ q)) (λ q. h (e ∙ q))
       where
         go : (k l n s c : Bool)
-            → (cond k 1 (cond l 2 (cond n 3 (cond s 4 (cond c (cells12 .number) 0)))) ≡ 0 → ⊥)
-            → (cond k 1 (cond l 2 (cond n 3 (cond s 4 (cond c (cells12 .number) 0)))) ≡ 12 → ⊥)
-            → refused (refusalAt (cond k 1 (cond l 2 (cond n 3 (cond s 4 (cond c (cells12 .number) 0))))) 0 0)
-            ≡ cond k (refused (answer 1 k)) (cond l (refused (answer 2 l)) (cond n (refused (answer 3 n)) (cond s (refused (answer 4 s)) (cond c (refused cells12) other))))
+            → (cond k 1 (cond l 2 (cond n 3 (cond s 4 (cond c (outsideAnswer .number) 0)))) ≡ 0 → ⊥)
+            → (cond k 1 (cond l 2 (cond n 3 (cond s 4 (cond c (outsideAnswer .number) 0)))) ≡ 12 → ⊥)
+            → refused (refusalAt (cond k 1 (cond l 2 (cond n 3 (cond s 4 (cond c (outsideAnswer .number) 0))))) 0 0)
+            ≡ cond k (refused (answer 1 k)) (cond l (refused (answer 2 l)) (cond n (refused (answer 3 n)) (cond s (refused (answer 4 s)) (cond c (refused outsideAnswer) other))))
         go true l n s c q u = refl
         go false true n s c q u = refl
         go false false true s c q u = refl

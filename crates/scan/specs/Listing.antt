@@ -11,7 +11,8 @@ use mir.Val.{SFits, toZ, ofZ}
 use Rattle.whole.specs.Whole.{Ex, within, _⊕_}
 use Rattle.whole.specs.Fits.{between, fits, asks, plain}
 use Rattle.lists.specs.Plain.{filter, positions}
-use Rattle.lists.specs.Choosing.{filter-zero, filter-next, chosen-length, filled, filled-none, filled-more}
+use Rattle.lists.specs.Choosing.{filter-zero, filter-next, chosen-length}
+use Rattle.lists.specs.Filling.{filled, filled-none, filled-more}
 use Rattle.paper.specs.Descriptor.{firstNumber, numberOf, sizeOf, segmentOf, segmentsOf}
 use Rattle.paper.specs.Corners.{weighed}
 use Rattle.paper.specs.Answers.{badLower, badWindow, farOff, positionsOf}

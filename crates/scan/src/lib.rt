@@ -6,7 +6,7 @@ ghost use Prim.Native.Nat.{_+_, _<_, _≤_};
 ghost use lib.ListN.{length, set};
 ghost use Rattle.paper.specs.Descriptor.{firstNumber, numberOf, sizeOf};
 ghost use Rattle.paper.specs.Answers.{badLower};
-ghost use Rattle.lists.specs.Choosing.{filled};
+ghost use Rattle.lists.specs.Filling.{filled};
 ghost use Rattle.scan.specs.Listing.{Ready, metPositions, metNumbers};
 use paper::Descriptor;
 use paper::Window;

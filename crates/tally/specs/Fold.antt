@@ -8,7 +8,7 @@ use lib.Dec.{ltb, eqb}
 use lib.ListN.{length, drop, set, length-append, length-map}
 use borrow.Author.Tests.{ltb-true, ltb-false, ne-eqb}
 use lib.IntN.{ℤ, pos}
-use Rattle.lists.specs.Choosing.{filled, filled-none, filled-more}
+use Rattle.lists.specs.Filling.{filled, filled-none, filled-more}
 use Rattle.paper.specs.Descriptor.{numberOf}
 use Rattle.paper.specs.Results.{numbersOf}
 use Rattle.paper.specs.Walk.{Event, visit, due, spoiled, Walked, walked, stopped, step, run}

@@ -11,7 +11,7 @@ use lib.ListN.{length, take, drop, getD, set, length-map, length-take, length-ap
 use lib.Seq.{take-suc, take-all, length-take-le}
 use borrow.Author.Tests.{eqb-true}
 use Rattle.lists.specs.Tests.{by-test, clash}
-use Rattle.lists.specs.Choosing.{filled-all, filled-length, filled-more}
+use Rattle.lists.specs.Filling.{filled-all, filled-length, filled-more}
 use Rattle.paper.specs.Results.{over}
 use Rattle.paper.specs.Wkt.{Place}
 use Rattle.wkt_read.specs.declared.automaton.State.{State}

@@ -6,7 +6,7 @@ use lib.ListN.{length}
 use mir.Syntax.{w32}
 use mir.ValLaws.{toZ-ofZ}
 use Rattle.paper.specs.Results.{numbersOf}
-use Rattle.lists.specs.Choosing.{filled, filled-length}
+use Rattle.lists.specs.Filling.{filled, filled-length}
 use Rattle.paper.specs.Descriptor.{firstNumber}
 use Rattle.paper.specs.Corners.{weighed}
 use Rattle.paper.specs.Answers.{farOff}

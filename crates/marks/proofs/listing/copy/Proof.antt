@@ -10,7 +10,7 @@ use native.Mathlib.Numerals.{add-one}
 use mir.Syntax.{w32}
 use mir.ValLaws.{toZ-ofZ}
 use borrow.Author.Needs.{needs}
-use Rattle.lists.specs.Choosing.{filled, filled-none, filled-more, filled-length}
+use Rattle.lists.specs.Filling.{filled, filled-none, filled-more, filled-length}
 use Rattle.marks.proofs.listing.copy.Statement.{statement}
 use Rattle.marks.proofs.listing.copy.Tie as tie
 
