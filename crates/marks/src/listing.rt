@@ -1,15 +1,19 @@
 // How many numbers a scan makes due; and the numbers of a walk, from where it listed them into the cells lent.
 ghost use mathlib.Core.Path.{_≡_};
+ghost use mathlib.Core.Bool.{false};
 ghost use Prim.Native.Nat.{_<_, _≤_};
 ghost use lib.Dec.{ltb};
 ghost use lib.ListN.{length, take};
 ghost use Rattle.lists.specs.Filling.{filled};
 ghost use Rattle.paper.specs.Descriptor.{sizeOf};
-ghost use Rattle.paper.specs.Results.{over, numbersOf};
+ghost use Rattle.paper.specs.Answers.{badWindow};
+ghost use Rattle.paper.specs.Orders.{badIndex};
+ghost use Rattle.paper.specs.Results.{over, numbersOf, queried};
 ghost use Rattle.paper.specs.Walk.{word, walkOf};
 ghost use Rattle.scan.specs.Listing.{Ready, metPositions};
 ghost use Rattle.marks.specs.Querying.{listedIn, Due};
 use paper::Descriptor;
+use paper::Reply;
 use paper::Window;
 
 // How many numbers a scan makes due; where n cells are lent, which hold any, it is enough to say 0.
@@ -36,7 +40,7 @@ fn copy(from: &[i32], to: &mut [i32], n: usize)
 }
 
 // The `due` numbers of a walk into the first cells: from the room that it was walked into where that holds them all, else by a second walk.
-pub fn write(words: &[i32], window: Window, room: &[i32], numbers: &mut [i32], due: usize)
+fn write(words: &[i32], window: Window, room: &[i32], numbers: &mut [i32], due: usize)
     requires { ⌜ Due (now words) window (now room) due × (due ≤ length (now numbers)) ⌝ }
     ensures { λ _. ⌜ now (numbers .exit) ≡ over (numbersOf (word (now (words .entry)) 1) (listedIn (walkOf (now (words .entry)) window))) (now (numbers .entry)) ⌝ }
 {
@@ -45,4 +49,21 @@ pub fn write(words: &[i32], window: Window, room: &[i32], numbers: &mut [i32], d
         return;
     }
     walk::walk(words, window, numbers);
+}
+
+// What a query over an index gives for a window, neither of them refused: the walk lists into the room lent, and what it lists is judged before a cell changes.
+pub fn answer(words: &[i32], window: Window, room: &mut [i32], numbers: &mut [i32]) -> Reply
+    requires { ⌜ (badIndex (now words) .given ≡ false) × (badWindow window .given ≡ false) ⌝ }
+    ensures { λ r. ⌜ (r, now (numbers .exit)) ≡ queried (now (words .entry)) window (now (numbers .entry)) ⌝ }
+{
+    let tally = walk::walk(words, window, room);
+    if 0 < tally.stopped {
+        return refusals::refusal(10, 0, 0);
+    }
+    let due = tally.listed;
+    if numbers.len() < due {
+        return refusals::refusal(7, due, 0);
+    }
+    write(words, window, room, numbers, due);
+    refusals::done(due, tally.visits)
 }
