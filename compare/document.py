@@ -47,8 +47,13 @@ def segments_of(table, descriptor):
     ]
 
 
-def number_of(lower, i):
-    return lower + i
+def first_number(kind, lower):
+    """Request E4: kind 3 carries lower bound 0 and numbers from 1. Document 01 said lower bound for every kind."""
+    return 1 if kind == OTHER else lower
+
+
+def number_of(first, i):
+    return first + i
 
 
 # ---------------------------------------------------------------- Meeting
@@ -182,7 +187,7 @@ def scan(table, descriptor, window, numbers):
     def too_many():
         for i, segment in enumerate(segments_of(table, descriptor)):
             if meeting(segment, window):
-                met.append(number_of(descriptor.lower, i))
+                met.append(number_of(first_number(descriptor.kind, descriptor.lower), i))
         return short_of_numbers(len(numbers), len(met))
 
     judges[8] = lambda: bad_window(window)
@@ -199,7 +204,7 @@ def build(table, descriptor, index):
     refusal = first_refusal(BUILDER_ORDER, judges)
     if refusal:
         return refusal, index
-    words = index_words(descriptor.lower, segments_of(table, descriptor))
+    words = index_words(first_number(descriptor.kind, descriptor.lower), segments_of(table, descriptor))
     return Reply(0, len(words), 0, 0), words + index[len(words) :]
 
 
@@ -579,7 +584,7 @@ def answers(text):
             return
         letter, numbers = parsed(line)
         if letter == b"T":
-            lower = numbers[1]
+            lower = first_number(*numbers)
         elif letter == b"S":
             segments.append(tuple(numbers))
         else:

@@ -122,7 +122,7 @@ class Library:
         if asked["reply"].number != 0:
             return {"promise": f"the query answers {asked['reply'].number}"}
         window, numbers = window_of(arguments), list(asked["numbers"])
-        broken = document.broken_promise(segments_in(arguments), arguments["lower"], window, asked["reply"], numbers)
+        broken = document.broken_promise(segments_in(arguments), document.first_number(arguments["kind"], arguments["lower"]), window, asked["reply"], numbers)
         return {"promise": broken or "kept"}
 
 

@@ -22,7 +22,7 @@ module kalinosz
   ! descriptor carries:
   !   _pointer      the pointer's own lower bound of dimension 2 numbers the segments
   !   _allocatable  the allocated lower bound does
-  !   _shape        any array or section, numbered as kind 3: a lower bound does not travel with it
+  !   _shape        any array or section, numbered as kind 3, from 1: a lower bound does not travel with it
   ! numbers and index are arrays of one dimension; a section of one with a step is packed and unpacked by the compiler.
 
   interface

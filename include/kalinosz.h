@@ -5,7 +5,7 @@
      coordinate j (0 to 3, for x1 y1 x2 y2) of position i (0 to n-1) is
      table[base + i * segment_stride + j * coordinate_stride],
    all in cells. A stride may be negative or zero; base is the cell of position 0, wherever it lies. The number of position i is lower + i.
-     kind                1 pointer, 2 allocatable, 3 other (as in a Fortran descriptor); kind 3 carries lower bound 0
+     kind                1 pointer, 2 allocatable, 3 other (as in a Fortran descriptor); kind 3 carries lower bound 0 and numbers from 1
      lower               -1000000 to 1000000
      n                   0 to 4096
      strides             -1048576 to 1048576

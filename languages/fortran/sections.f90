@@ -57,6 +57,9 @@ program sections
     numbers, size(numbers, kind=c_size_t))
   print '(a, i0, *(1x, i0))', 'on_side, strides 1 and 6: ', reply%number, numbers(:reply%count)
 
+  ! Kind 3 numbers as the dummy's own loop does, from 1, whatever the bounds of the array are.
+  call by_own_loop(held)
+
   print '(a)', 'refused'
   seen => with_odd_tags%value
   call scan_pointer('=> with_odd_tags%..', seen)
@@ -89,6 +92,19 @@ contains
     call show(label, kalinosz_describe_shape(table), kalinosz_scan_shape(table, 25_k, 45_k, 0_k, 9_k, numbers))
   end subroutine
 
+  subroutine by_own_loop(table)
+    integer(c_int32_t), intent(in) :: table(:, :)
+    type(kalinosz_reply) :: r
+    integer :: j
+    write (*, '(a)', advance='no') 'own loop of a dummy:'
+    do j = 1, size(table, 2)
+      if (kalinosz_meets(int(table(1, j), k), int(table(2, j), k), int(table(3, j), k), int(table(4, j), k), &
+        25_k, 45_k, 0_k, 9_k) == 1) write (*, '(1x, i0)', advance='no') j
+    end do
+    r = kalinosz_scan_shape(table, 25_k, 45_k, 0_k, 9_k, numbers)
+    print '(a, *(1x, i0))', '; the scan:', numbers(:r%count)
+  end subroutine
+
   subroutine scan_allocatable(label, table)
     character(*), intent(in) :: label
     integer(c_int32_t), allocatable, intent(in) :: table(:, :)
@@ -108,7 +124,7 @@ contains
     character(20) :: name
     name = label
     print '(a, 2x, i4, i5, i8, i5, 2a, i7, a, i0, *(1x, i0))', name, t%kind, t%base, t%lower, t%n, &
-      stride(t%segment_stride), stride(t%coordinate_stride), t%length, ' | ', r%number, numbers(:r%count)
+      stride(t%segment_stride), stride(t%coordinate_stride), t%length, ' | ', r%number, numbers(:merge(r%count, 0_k, r%number == 0))
   end subroutine
 
   ! A stride, or 'none' where it is no whole number of cells: the library is then told one that it refuses.

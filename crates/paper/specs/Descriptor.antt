@@ -1,11 +1,11 @@
 -- Document 01, "Descriptor and numbers".
-use mathlib.Core.Bool.{Bool, _||_}
+use mathlib.Core.Bool.{Bool, _||_, cond}
 use mathlib.Core.List.{List, map}
 use Prim.Native.Nat.{ℕ}
 use lib.IntN.{ℤ, pos, _+ℤ_, _*ℤ_}
 use lib.Signed.{leZ, ltZ}
 use lib.ListN.{getD}
-use Rattle.lists.specs.Plain.{toNat, positions, filter, joined}
+use Rattle.lists.specs.Plain.{same, toNat, positions, filter, joined}
 use Rattle.paper.specs.declared.Descriptor.{Descriptor}
 use Rattle.paper.specs.declared.Segment.{Segment}
 
@@ -29,9 +29,10 @@ outside len z = ltZ z (pos 0) || leZ len z
 abbrev pub outsideCells : ℤ → Descriptor → List (ℕ × ℕ)
 outsideCells len d = filter (λ p. outside len (cellOf d (p .0) (p .1))) (addressed d)
 
--- the number of position 0 of a table of a kind and a lower bound: the lower bound, for every kind
+-- the number of position 0 of a table of a kind and a lower bound: the lower bound, but for kind 3, whose descriptor carries 0, it is 1, since an
+-- assumed-shape dummy counts from 1 (request E4; document 01 said lower bound + i for every kind)
 abbrev pub firstNumber : ℤ → ℤ → ℤ
-firstNumber kind lower = lower
+firstNumber kind lower = cond (same kind (pos 3)) (pos 1) lower
 
 -- the number of position i
 abbrev pub numberOf : ℤ → ℕ → ℤ

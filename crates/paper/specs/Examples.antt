@@ -123,6 +123,9 @@ builderRows =
     -- lower bounds at their limits
     ∷ build [] (descriptor "1 0 -1000000 0 0 0") (sevens 4) (reply "0 4 0 0", cells "0 -1000000 0 0")
     ∷ build [] (descriptor "1 0 -1000001 0 0 0") (sevens 4) (reply "2 0 0 0", sevens 4)
+    -- kind 3: 1 in word 1, though the descriptor carries 0; 1 in its place is refused
+    ∷ build (cells "0 2 6 2") (descriptor "3 0 0 1 4 1") (sevens 18) (reply "0 18 0 0", cells "1 1 1 0 0 2 6 2 0 0 0 1 0 0 0 0 0 0")
+    ∷ build (cells "0 2 6 2") (descriptor "3 0 1 1 4 1") (sevens 18) (reply "2 0 0 0", sevens 18)
     -- the end smaller in (x, y) first; a point counts as horizontal
     ∷ build (cells "6 2 0 2") (descriptor "1 0 0 1 4 1") (sevens 18) (reply "0 18 0 0", cells "1 0 1 0 0 2 6 2 0 0 0 1 0 0 0 0 0 0")
     ∷ build (cells "4 5 4 0") (descriptor "1 0 0 1 4 1") (sevens 18) (reply "0 18 0 0", cells "1 0 0 1 4 0 4 5 0 0 0 1 0 0 0 0 0 0")
@@ -151,7 +154,11 @@ scanRows =
     -- the same segments from coordinate to coordinate, and the last position first; the coordinate limits themselves are no fault
     ∷ scan (cells "-2 -2 4 2 3 4 2 2 9 6 7 9") (descriptor "1 0 -1 3 1 3") (window "0 4 0 4") (sevens 3) (reply "0 2 0 0", cells "-1 1 7")
     ∷ scan (cells "-2 2 2 6 -2 3 2 7 4 4 9 9") (descriptor "1 8 -1 3 -4 1") (window "0 4 0 4") (sevens 3) (reply "0 2 0 0", cells "-1 1 7")
-    ∷ scan (cells "-536870912 0 536870912 0") (descriptor "3 0 0 1 4 1") (window "536870912 536870912 0 0") (sevens 1) (reply "0 1 0 0", cells "0")
+    ∷ scan (cells "-536870912 0 536870912 0") (descriptor "1 0 0 1 4 1") (window "536870912 536870912 0 0") (sevens 1) (reply "0 1 0 0", cells "0")
+    -- kind 3 carries lower bound 0 and numbers from 1; kinds 1 and 2 number from their lower bound, 0 too
+    ∷ scan (cells "0 2 6 2 0 2 6 2") (descriptor "3 0 0 2 4 1") (window "0 0 2 2") (sevens 2) (reply "0 2 0 0", cells "1 2")
+    ∷ scan (cells "0 2 6 2 0 2 6 2") (descriptor "2 0 0 2 4 1") (window "0 0 2 2") (sevens 2) (reply "0 2 0 0", cells "0 1")
+    ∷ scan (cells "0 2 6 2 0 2 6 2") (descriptor "1 0 0 2 4 1") (window "0 0 2 2") (sevens 2) (reply "0 2 0 0", cells "0 1")
     ∷ []
 
 -- ---- the query's order: 9, 8, 10, 7; below, the index of one segment (0,2)-(6,2) with a word changed
@@ -192,6 +199,8 @@ queryRows =
     ∷ query (cells "1 1 1 0 0 2 6 2 0 0 0 1 0 0 0 0 0 0") (window "3 5 3 3") [] (reply "0 0 4 0", [])
     ∷ query tiedWords (window "1 3 2 2") (sevens 3) (reply "7 4 0 0", sevens 3)
     ∷ query tiedWords (window "1 3 2 2") (sevens 4) (reply "0 4 26 0", cells "10 12 13 14")
+    -- an index answers by the word it holds: one of kind 3 that was built before request E4 still from 0
+    ∷ query (cells "1 0 1 0 0 2 6 2 0 0 0 1 0 0 0 0 0 0") (window "3 5 1 3") (sevens 2) (reply "0 1 4 0", cells "0 7")
     -- with n = 0 there are no visits
     ∷ query (cells "0 1 0 0") (window "3 5 1 3") (sevens 1) (reply "0 0 0 0", sevens 1)
     -- ties: a band that begins and ends at a split; an edge at a far end; an edge at a centre; y beyond all; a point; a column; all
@@ -248,6 +257,8 @@ programRows =
     -- ten digits are a number: 2, as is kind 3 with lower bound 1; 1 before 2
     ∷ prints (bytes "T\t1\t1234567890\n") (bytes "R\t2\t1\n")
     ∷ prints (bytes "T\t3\t1\n") (bytes "R\t2\t1\n")
+    -- T 3 0 numbers from 1
+    ∷ prints (bytes "T\t3\t0\nS\t0\t0\t0\t0\nW\t0\t0\t0\t0\n") (bytes "A\t1\t5\t1\n")
     ∷ prints (bytes "T\t4\t-1000001\n") (bytes "R\t1\t1\n")
     -- 5 before 6; 6; 8
     ∷ prints (bytes "T\t1\t1\nS\t0\t0\t1\t536870913\n") (bytes "R\t5\t2\n")

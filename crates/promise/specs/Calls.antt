@@ -14,7 +14,7 @@ use lib.Dec.{T, not-T, eqb, eqb→eq, eqb-refl, ltb, leb, le→leb, leb→le}
 use borrow.Author.Tests.{le-ltb, lt-ltb}
 use Rattle.whole.specs.Whole.{of, #, _⊕_, whole}
 use Rattle.lists.specs.Plain.{same, toNat, count, positions}
-use Rattle.lists.specs.Tests.{agree, is-true, snd-of, holds, clash, or-false}
+use Rattle.lists.specs.Tests.{agree, is-true, snd-of, holds, clash, or-false, cases}
 use Rattle.lists.specs.Orders.{same-equal, same-self}
 use Rattle.lists.specs.Every.{All, all-map}
 use Rattle.lists.specs.Counting.{count-map, count-none, each-counted}
@@ -141,7 +141,7 @@ module _ (table : List ℤ) (d : Descriptor) (index : List ℤ) where
   accepts : All (λ x. x .given ≡ false) (builderOrder table d index) → Accepts
   unfolding segmentsOf
   accepts (All.also kind (All.also lower (All.also extent (All.also strides (All.also cells (All.also buffer (All.also far (All.also slant All.none)))))))) = record {
-    lower = no-not (lowerFits (d .lower)) (or-false (not (lowerFits (d .lower))) _ lower .0);
+    lower = cases (λ z. lowerFits z ≡ true) (same (d .kind) (pos 3)) (pos 1) (d .lower) (λ t. refl) (λ t. no-not (lowerFits (d .lower)) (or-false (not (lowerFits (d .lower))) _ lower .0));
     straight = record {
       size = rw (length-map (positions (sizeOf d)) (segmentOf d table), positions-length (sizeOf d)) (size-fits (d .extent) (no-not (extentFits (d .extent)) extent));
       coordinates = far;

@@ -15,7 +15,7 @@ use mir.Val.{SFits}
 use mir.ValLaws.{toZ-ofZ}
 use Rattle.whole.specs.Whole.{#, _⊕_, _⊗_, of, whole, fits-by}
 use Rattle.lists.specs.Plain.{same, any, filter, joined, positions, toNat}
-use Rattle.lists.specs.Tests.{or-false, within-true}
+use Rattle.lists.specs.Tests.{cases, or-false, within-true}
 use Rattle.lists.specs.Filters.{filter-map}
 use Rattle.lists.specs.Choosing.{First, stopped, first-any, any-joined, any-map, any-none, any-some, none-at, chosen-none, filter-first, parts-none, parts-first}
 use Rattle.paper.specs.Limits.{extentFits, lowerFits}
@@ -85,7 +85,9 @@ row-some len d n i j h g e = any-some (rowOutside len d) n i h (any-some (λ j. 
 -- ---- a first number where 2 is not given
 pub first-bounds : (kind lower : ℤ) → badLower kind lower .given ≡ false → (negℤ (pos 1000000) ≤ℤ firstNumber kind lower) × (firstNumber kind lower ≤ℤ pos 1000000)
 first-bounds kind lower e =
-    within-true (negℤ (pos 1000000)) (pos 1000000) lower (not-false (lowerFits lower) (or-false (not (lowerFits lower)) (same kind (pos 3) && not (same lower (pos 0))) e .0))
+    within-true (negℤ (pos 1000000)) (pos 1000000) (firstNumber kind lower)
+    (cases (λ z. lowerFits z ≡ true) (same kind (pos 3)) (pos 1) lower (λ t. refl)
+    (λ t. not-false (lowerFits lower) (or-false (not (lowerFits lower)) (same kind (pos 3) && not (same lower (pos 0))) e .0)))
 
 -- ---- a table that 3, 4 and 12 pass
 pub extent-of : (n : ℤ) → badExtent n .given ≡ false → (pos 0 ≤ℤ n) × (pos (toNat n) ≡ n) × (toNat n ≤ 4096)

@@ -7,7 +7,7 @@ ghost use lib.IntN.{pos};
 ghost use lib.ListN.{length, getD};
 ghost use mir.Syntax.{w64};
 ghost use mir.Val.{SFits};
-ghost use Rattle.lists.specs.Plain.{toNat, any, positions};
+ghost use Rattle.lists.specs.Plain.{same, toNat, any, positions};
 ghost use Rattle.lists.specs.Choosing.{First};
 ghost use Rattle.paper.specs.Descriptor.{firstNumber, cellOf, sizeOf, outside as Outside, segmentOf, segmentsOf};
 ghost use Rattle.paper.specs.Limits.{coordinateFits};
@@ -25,10 +25,17 @@ pub fn bad_kind(descriptor: Descriptor) -> bool
     !((1 <= descriptor.kind) & (descriptor.kind <= 3))
 }
 
+// Kind 3.
+fn is_other(descriptor: Descriptor) -> bool
+    ensures { λ r. ⌜ r ≡ same (descriptor .kind) (pos 3) ⌝ }
+{
+    (descriptor.kind <= 3) & (3 <= descriptor.kind)
+}
+
 pub fn bad_lower(descriptor: Descriptor) -> bool
     ensures { λ r. ⌜ r ≡ badLower (descriptor .kind) (descriptor .lower) .given ⌝ }
 {
-    let other = (descriptor.kind <= 3) & (3 <= descriptor.kind);
+    let other = is_other(descriptor);
     let zero = (descriptor.lower <= 0) & (0 <= descriptor.lower);
     !((-1000000 <= descriptor.lower) & (descriptor.lower <= 1000000)) | (other & !zero)
 }
@@ -47,11 +54,14 @@ pub fn count(descriptor: Descriptor) -> usize
     whole::index(descriptor.extent)
 }
 
-// The number of position 0; position i has the i-th after it.
+// The number of position 0; position i has the i-th after it. Kind 3 carries lower bound 0 and numbers from 1.
 pub fn first_number(descriptor: Descriptor) -> i64
     ensures { λ r. ⌜ r ≡ firstNumber (descriptor .kind) (descriptor .lower) ⌝ }
     ensures fits { λ r. ⌜ SFits w64 r ⌝ }
 {
+    if is_other(descriptor) {
+        return 1;
+    }
     descriptor.lower
 }
 
