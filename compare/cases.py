@@ -6,13 +6,13 @@ from collections import namedtuple
 
 import document
 from damage import damaged, forged
-from document import COORDINATE_MOST, SEGMENTS_MOST, STRIDE_MOST, Window
+from document import COORDINATE_MOST, SEGMENTS_MOST, STRIDE_MOST, WINDOWS_MOST, Window
 from draw import AROUND_32_BITS, INT64, Call, beyond_coordinate, chance, clamp_64, near
-from faults import BUILD_FAULTS, QUERY_FAULTS, SCAN_FAULTS, some_faults
+from faults import BUILD_FAULTS, MANY_FAULTS, QUERY_FAULTS, SCAN_FAULTS, fault_windows, some_faults
 from inputs import a_text
 from tables import (
     a_size, a_table, a_window, an_index, any_segments, build_call, comb, crossing_one_line, duplicates, end_to_end,
-    lowest_and_highest, mixed, nested, on_one_row, plain_strides, points, query_call, scan_call, staircase,
+    lowest_and_highest, many_call, mixed, nested, on_one_row, plain_strides, points, query_call, scan_call, staircase,
     straight_segments, table_arguments, touching_pair, turned,
 )  # fmt: skip
 
@@ -99,9 +99,14 @@ def meets_case(r, index):
 
 
 def refusals_case(r, index):
-    which, turn = index % 3, index // 3
+    turn = index // 4
+    which = (index + turn) % 4  # each in turn, and not always at the same side of its memory
     n = r.choice([0, 1, 2, 3, 5, 8, 20])
-    if which == 2:
+    if which == 3:
+        segments = straight_segments(r, n)
+        m = WINDOWS_MOST if chance(r, 3) else r.choice([0, 1, 1, 2, 2, 3, 5])
+        call, faults = many_call(r, an_index(r, segments), [a_window(r, segments) for _ in range(m)]), MANY_FAULTS
+    elif which == 2:
         segments = straight_segments(r, n)
         call, faults = query_call(r, an_index(r, segments), a_window(r, segments)), QUERY_FAULTS
     elif which == 1:
@@ -113,15 +118,49 @@ def refusals_case(r, index):
     return [call]
 
 
-def damaged_case(r, index):
+def damaged_words(r, index):
+    """Words that no builder wrote, and segments by which to choose windows: where answers change."""
     if index % 3 == 0:
         n = r.choice([1, 2, 3, 4, 5, 8, 9, 17, 30])
         words, scale = forged(r, n)
-        everywhere = [(-reach, -reach, reach, reach) for reach in range(scale + 1)]
-        return [query_call(r, words, a_window(r, everywhere)) for _ in range(3)]
+        return words, [(-reach, -reach, reach, reach) for reach in range(scale + 1)]
     segments = straight_segments(r, max(1, a_size(r)))
-    words = damaged(r, an_index(r, segments))
+    return damaged(r, an_index(r, segments)), segments
+
+
+def damaged_case(r, index):
+    words, segments = damaged_words(r, index)
     return [query_call(r, words, a_window(r, segments)) for _ in range(3)]
+
+
+# ---------------------------------------------------------------- Many windows in one call
+
+HOW_MANY = [0, 1, 1, 2, 2, 2, 3, 3, 3, 4, 4, 5, 5, 8, 12, WINDOWS_MOST - 1, WINDOWS_MOST, WINDOWS_MOST + 1]
+
+
+def words_and_windows(r, index, m):
+    """Built words, or words that no builder wrote; of those the windows whose walk ends often stand first."""
+    if chance(r, 50):
+        segments = straight_segments(r, a_size(r))
+        return an_index(r, segments), [a_window(r, segments) for _ in range(m)]
+    words, segments = damaged_words(r, index)
+    windows = [a_window(r, segments) for _ in range(m)]
+    if chance(r, 70) and document.bad_index(words) is None:
+        windows.sort(key=lambda window: not document.Walk(words, window).ends())
+    return words, windows
+
+
+def many_case(r, index):
+    return [many_call(r, *words_and_windows(r, index, r.choice(HOW_MANY)))]
+
+
+def joined_case(r, index):
+    """The product in one call against the product window by window. The slice is good; its windows need not be."""
+    words, windows = words_and_windows(r, index, r.choice([1, 2, 3, 8, WINDOWS_MOST]))
+    call = many_call(r, words, windows)
+    if chance(r, 15):
+        fault_windows(r, call.arguments)
+    return [Call("joined", {**call.arguments, "counts": [7] * (len(windows) + r.randint(0, 1))})]
 
 
 def program_case(r, index):
@@ -142,11 +181,13 @@ LARGE_FAMILIES = [mixed, on_one_row, crossing_one_line, points, nested, comb, en
 
 def large_case(r, index):
     """Scan, words and queries at the limit of n, on each family in turn, then long chains and far strides."""
-    way = index % (len(LARGE_FAMILIES) + 3)
+    way = index % (len(LARGE_FAMILIES) + 4)
     if way == len(LARGE_FAMILIES):
         return long_chain_calls(r)
     if way == len(LARGE_FAMILIES) + 1:
         return far_stride_calls(r)
+    if way == len(LARGE_FAMILIES) + 2:
+        return most_numbers_calls(r)
     n = r.choice([SEGMENTS_MOST, SEGMENTS_MOST, SEGMENTS_MOST - 1, 2_049])
     if way > len(LARGE_FAMILIES):
         return [scan_call(r, a_table(r, n, any_segments)) for _ in range(2)]
@@ -157,6 +198,7 @@ def large_case(r, index):
     calls = [build_call(r, arguments), scan_call(r, arguments)]
     calls += [query_call(r, words, window) for window in windows]
     calls += [query_call(r, damaged(r, words), window) for window in windows[:4]]
+    calls += [many_call(r, words, windows), many_call(r, damaged(r, words), windows)]
     return calls + [Call("demands", {**arguments, **windows[0]._asdict()})]
 
 
@@ -190,6 +232,13 @@ def far_stride_calls(r):
     return [scan_call(r, arguments), build_call(r, arguments)]
 
 
+def most_numbers_calls(r):
+    """As many windows and as many numbers as there can be, 64 times 4,096, in just as many cells and in one fewer."""
+    words = an_index(r, straight_segments(r, SEGMENTS_MOST, points))
+    whole = Window(-COORDINATE_MOST, COORDINATE_MOST, -COORDINATE_MOST, COORDINATE_MOST)
+    return [many_call(r, words, [whole] * WINDOWS_MOST, spare) for spare in (0, -1)]
+
+
 # ---------------------------------------------------------------- All kinds: how many cases a run makes
 
 Kind = namedtuple("Kind", "case cases")
@@ -202,10 +251,12 @@ KINDS = {
     "query": Kind(query_case, 4_000),
     "damaged": Kind(damaged_case, 8_000),
     "demands": Kind(demands_case, 2_000),
-    "refusals": Kind(refusals_case, 12_000),
+    "many": Kind(many_case, 1_500),
+    "joined": Kind(joined_case, 500),
+    "refusals": Kind(refusals_case, 16_000),
     "program": Kind(program_case, 3_000),
     "pipe": Kind(pipe_case, 150),
-    "large": Kind(large_case, 12),
+    "large": Kind(large_case, 13),
 }
 
 

@@ -14,6 +14,7 @@ SEGMENTS_MOST = 4_096
 LOWER_MOST = 1_000_000
 STRIDE_MOST = 1_048_576
 COORDINATE_MOST = 536_870_912  # window edges too
+WINDOWS_MOST = 64  # of one call, request E5
 KINDS = (1, 2, 3)  # pointer, allocatable, other
 OTHER = 3  # the kind that carries lower bound 0
 
@@ -79,10 +80,11 @@ def meeting(segment, window):
 
 # ---------------------------------------------------------------- Answer numbers
 
-# Request E1 has put 12 directly after 4, and request E2 has put 7 last in scan and query.
+# Request E1 has put 12 directly after 4, request E2 has put 7 last in scan and query, and request E5 has the order of many windows.
 BUILDER_ORDER = [1, 2, 3, 4, 12, 7, 5, 6]
 SCAN_ORDER = [1, 2, 3, 4, 12, 8, 5, 7]
 QUERY_ORDER = [9, 8, 10, 7]
+MANY_ORDER = [9, 14, 8, 10, 7]
 CELL_ORDER = [3, 4, 12, 11]
 WORDS_ORDER = [3]
 MEETS_ORDER = [8, 5]
@@ -126,8 +128,8 @@ def bad_cells(length, base, n, segment_stride, coordinate_stride):
     return outside and Place(position=outside[0], count=outside[1])
 
 
-def first_where(fault, segments):
-    return next((Place(i, 0) for i, segment in enumerate(segments) if fault(segment)), None)
+def first_where(fault, items):
+    return next((Place(i, 0) for i, item in enumerate(items) if fault(item)), None)
 
 
 def beyond(segment):
@@ -151,6 +153,12 @@ def short_of_numbers(have, due):
 def bad_window(window):
     a, b, c, d = window
     return refused_if(a > b or c > d or not all(within(edge, COORDINATE_MOST) for edge in window))
+
+
+def bad_slice(edges, count_cells):
+    """Request E5: not of whole windows, over 64 of them, or fewer count cells than windows."""
+    windows, rest = divmod(len(edges), 4)
+    return refused_if(rest or windows > WINDOWS_MOST or count_cells < windows)
 
 
 def bad_index(words):
@@ -177,7 +185,7 @@ def table_judges(table, descriptor):
     }
 
 
-# The three calls: each gives the Reply and the lent buffer afterwards.
+# The calls: each gives the Reply and the lent buffers afterwards.
 
 
 def scan(table, descriptor, window, numbers):
@@ -227,6 +235,37 @@ def query(index, window, numbers):
         return refusal, numbers
     count = len(walk.numbers)
     return Reply(0, count, walk.visits, 0), walk.numbers + numbers[count:]
+
+
+def windows_in(edges):
+    """The windows of a slice, four numbers each; what is left over is none."""
+    return [Window(*edges[i : i + 4]) for i in range(0, len(edges) // 4 * 4, 4)]
+
+
+def query_many(index, edges, counts, numbers):
+    """Request E5: the single queries in order, joined. The Reply, and both lent buffers afterwards."""
+    walks = []
+
+    def spoiled():
+        walks.extend(Walk(index, window) for window in windows_in(edges))
+        return first_where(lambda walk: not walk.ends(), walks)
+
+    def joined():
+        return [number for walk in walks for number in walk.numbers]
+
+    judges = {
+        9: lambda: bad_index(index),
+        14: lambda: bad_slice(edges, len(counts)),
+        8: lambda: first_where(bad_window, windows_in(edges)),
+        10: spoiled,
+        7: lambda: short_of_numbers(len(numbers), len(joined())),
+    }
+    refusal = first_refusal(MANY_ORDER, judges)
+    if refusal:
+        return refusal, counts, numbers
+    each, listed = [len(walk.numbers) for walk in walks], joined()
+    reply = Reply(0, len(listed), sum(walk.visits for walk in walks), 0)
+    return reply, each + counts[len(each) :], listed + numbers[len(listed) :]
 
 
 # The three answers for C hosts: a plain number, a refusal as its negative.

@@ -1,11 +1,19 @@
 """What every generator draws with: chances, numbers at the ends of 32 and 64 bits, numbers at and beyond a limit."""
 
+from array import array
 from collections import namedtuple
 
 from document import COORDINATE_MOST
 
 # A call by its name, with its arguments by theirs: arrays are lists, everything else whole numbers.
 Call = namedtuple("Call", "name arguments")
+
+WIDE = {"windows"}  # lent arrays of 64-bit numbers; the cells of all others have 32 bits
+
+
+def as_array(name, values):
+    return array("q" if name in WIDE else "i", values)
+
 
 INT32 = (-(2**31), 2**31 - 1)
 INT64 = (-(2**63), 2**63 - 1)

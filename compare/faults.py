@@ -1,7 +1,7 @@
 """Faults in a call, and which of them to make together: every order of refusals is tried in pairs."""
 
 import document
-from document import COORDINATE_MOST, LOWER_MOST, SEGMENTS_MOST, STRIDE_MOST
+from document import COORDINATE_MOST, LOWER_MOST, SEGMENTS_MOST, STRIDE_MOST, WINDOWS_MOST
 from draw import AROUND_32_BITS, INT32, INT64, beyond_coordinate, chance, clamp_64
 
 def fault_kind(r, call):
@@ -57,9 +57,38 @@ def put_coordinate(r, call, value):
 def fault_window(r, call):
     low, high = r.choice(["ab", "cd"])
     if chance(r, 50):
-        call[low], call[high] = call[high] + r.choice([1, 2]), call[high]
+        call[low] = clamp_64(call[high] + r.choice([1, 2]))
     else:
         call[r.choice([low, high])] = clamp_64(beyond_coordinate(r))
+
+
+def fault_windows(r, call):
+    """One or two windows of a slice bad: the first is to be returned."""
+    edges = list(call["windows"])
+    for _ in range(r.randint(1, 2) if len(edges) >= 4 else 0):
+        at = 4 * r.randrange(len(edges) // 4)
+        window = dict(zip("abcd", edges[at : at + 4]))
+        fault_window(r, window)
+        edges[at : at + 4] = window.values()
+    call["windows"] = edges
+
+
+def fault_slice_rest(r, call):
+    """A window cut short, or one begun after the last."""
+    rest, edges = r.randint(1, 3), call["windows"]
+    call["windows"] = edges[:-rest] if edges and chance(r, 50) else edges + [r.randint(-3, 3) for _ in range(rest)]
+
+
+def fault_slice_long(r, call):
+    """Over 64 windows, with a count cell for each: the same ones again and again."""
+    m = WINDOWS_MOST + r.choice([1, 1, 2, WINDOWS_MOST])
+    call["windows"] = ((call["windows"] or [0]) * 4 * m)[: 4 * m]
+    call["counts"] = (call["counts"] or [0]) * m
+
+
+def fault_count_cells(r, call):
+    m = len(call["windows"]) // 4
+    call["counts"] = call["counts"][: r.choice([0, max(0, m - 1), m // 2])]
 
 
 def fault_numbers(r, call):
@@ -120,11 +149,12 @@ def fault_index_spoiled(r, call):
 TABLE_FAULTS = [
     fault_kind, fault_lower, fault_lower_of_other, fault_extent, fault_stride, fault_base, fault_table,
 ]  # fmt: skip
-SCAN_FAULTS = TABLE_FAULTS + [fault_window, fault_numbers, fault_coordinate]
+SCAN_FAULTS = TABLE_FAULTS + [fault_window, fault_coordinate, fault_numbers]
 BUILD_FAULTS = TABLE_FAULTS + [fault_index_room, fault_coordinate, fault_slant]
-QUERY_FAULTS = [
-    fault_index_head, fault_index_extent, fault_index_lower, fault_index_counts, fault_index_cut, fault_window,
-    fault_numbers, fault_index_spoiled,
+INDEX_FAULTS = [fault_index_head, fault_index_extent, fault_index_lower, fault_index_counts, fault_index_cut]
+QUERY_FAULTS = INDEX_FAULTS + [fault_window, fault_index_spoiled, fault_numbers]
+MANY_FAULTS = INDEX_FAULTS + [
+    fault_slice_rest, fault_slice_long, fault_count_cells, fault_windows, fault_index_spoiled, fault_numbers,
 ]  # fmt: skip
 
 

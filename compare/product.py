@@ -11,10 +11,12 @@ from array import array
 
 import document
 from document import Reply
-from tables import descriptor_of, segments_in, window_of
+from draw import as_array
+from tables import descriptor_of, numbers_most, segments_in, window_of
 
 PAGE = mmap.PAGESIZE
 WAIT_SECONDS = 20
+ARRAYS_MOST = 4  # lent to one call
 
 
 class CReply(ctypes.Structure):
@@ -30,6 +32,7 @@ SIGNATURES = {
     "kalinosz_scan": (CReply, [ARRAY, SIZE] + DESCRIPTOR + WINDOW + [ARRAY, SIZE]),
     "kalinosz_build": (CReply, [ARRAY, SIZE] + DESCRIPTOR + [ARRAY, SIZE]),
     "kalinosz_query": (CReply, [ARRAY, SIZE] + WINDOW + [ARRAY, SIZE]),
+    "kalinosz_query_many": (CReply, [ARRAY, SIZE] * 4),
 }
 
 
@@ -49,17 +52,16 @@ class Room:
             if protect(forbidden, PAGE, 0) != 0:
                 raise OSError(ctypes.get_errno(), "mprotect")
 
-    def lend(self, values, at_end):
-        cells = array("i", values).tobytes()
-        self.length, self.bytes = len(values), len(cells)
+    def lend(self, cells, at_end):
+        self.cells, self.bytes = cells, len(cells) * cells.itemsize
         self.address = self.end - self.bytes if at_end else self.first
         self.beside = self.address - len(self.BESIDE) if at_end else self.first + self.bytes
-        ctypes.memmove(self.address, cells, self.bytes)
+        ctypes.memmove(self.address, cells.tobytes(), self.bytes)
         ctypes.memmove(self.beside, self.BESIDE, len(self.BESIDE))
-        return self.address, self.length
+        return self.address, len(cells)
 
     def now(self):
-        cells = array("i")
+        cells = self.cells[:0]
         cells.frombytes(ctypes.string_at(self.address, self.bytes))
         return cells
 
@@ -76,17 +78,19 @@ class Library:
             call = getattr(library, name)
             call.restype, call.argtypes = result, arguments
             setattr(self, name, call)
-        self.rooms = [Room(), Room()]
+        self.rooms = [Room() for _ in range(ARRAYS_MOST)]
         self.at_end = False
 
-    def lent(self, call, first, numbers, second):
-        """Calls with two lent arrays, by turns against the page before and the page behind."""
+    def lent(self, call, arguments, *parts):
+        """Calls with plain numbers and with lent arrays, which are named, by turns against the page before and the page behind."""
         self.at_end = not self.at_end
-        (_, first_values), (_, second_values) = first, second
-        lent = [room.lend(values, self.at_end) for room, values in zip(self.rooms, (first_values, second_values))]
-        reply = call(*lent[0], *numbers, *lent[1])
+        rooms = dict(zip((part for part in parts if isinstance(part, str)), self.rooms))
+        given = []
+        for part in parts:
+            given += rooms[part].lend(as_array(part, arguments[part]), self.at_end) if part in rooms else [part]
+        reply = call(*given)
         after = {"reply": Reply(*(getattr(reply, name) for name in Reply._fields))}
-        for (name, _), room in zip((first, second), self.rooms):
+        for name, room in rooms.items():
             after[name] = room.now()
             after["beside " + name] = room.beside_kept()
         return after
@@ -101,16 +105,38 @@ class Library:
         return {"result": self.kalinosz_meets(*arguments.values())}
 
     def scan(self, arguments):
-        numbers = (*descriptor_of(arguments), *window_of(arguments))
-        return self.lent(self.kalinosz_scan, pick(arguments, "table"), numbers, pick(arguments, "numbers"))
+        return self.lent(self.kalinosz_scan, arguments, "table", *descriptor_of(arguments), *window_of(arguments), "numbers")
 
     def build(self, arguments):
-        numbers = descriptor_of(arguments)
-        return self.lent(self.kalinosz_build, pick(arguments, "table"), numbers, pick(arguments, "index"))
+        return self.lent(self.kalinosz_build, arguments, "table", *descriptor_of(arguments), "index")
 
     def query(self, arguments):
-        numbers = window_of(arguments)
-        return self.lent(self.kalinosz_query, pick(arguments, "index"), numbers, pick(arguments, "numbers"))
+        return self.lent(self.kalinosz_query, arguments, "index", *window_of(arguments), "numbers")
+
+    def query_many(self, arguments):
+        return self.lent(self.kalinosz_query_many, arguments, "index", "windows", "counts", "numbers")
+
+    def one_by_one(self, arguments):
+        """The windows of a slice by single queries, each lent the cells after the numbers of those before: the replies and the cells."""
+        windows, n = document.windows_in(arguments["windows"]), numbers_most(arguments["index"])
+        cells, replies, used = arguments["numbers"] + [0] * n * len(windows), [], 0
+        for window in windows:
+            asked = self.query({"index": arguments["index"], **window._asdict(), "numbers": cells[used : used + n]})
+            cells[used : used + n] = asked["numbers"]
+            used += asked["reply"].count
+            replies.append(asked["reply"])
+        return replies, cells
+
+    def joined(self, arguments):
+        """What the windows give in one call is what they give one by one."""
+        many, (replies, cells) = self.query_many(arguments), self.one_by_one(arguments)
+        counts, numbers = arguments["counts"], arguments["numbers"]
+        reply = joined_reply(replies, len(numbers))
+        if reply.number == 0:
+            each = [one.count for one in replies]
+            counts, numbers = each + counts[len(each) :], cells[: len(numbers)]
+        expected, got = (reply, counts, numbers), (many["reply"], list(many["counts"]), list(many["numbers"]))
+        return {"promise": "kept" if got == expected else f"one by one they give {expected}, in one call {got}"}
 
     def demands(self, arguments):
         """The product's own words, asked by the product, judged by Meeting."""
@@ -126,8 +152,14 @@ class Library:
         return {"promise": broken or "kept"}
 
 
-def pick(arguments, name):
-    return name, arguments[name]
+def joined_reply(replies, cells):
+    """The first refusal in the order of many windows that a single query gives, and which window's it is; 7 is judged of all together."""
+    answers = [reply.number for reply in replies]
+    for number in document.MANY_ORDER:
+        if number in answers:
+            return Reply(number, 0, 0, answers.index(number))
+    count, visits = sum(reply.count for reply in replies), sum(reply.visits for reply in replies)
+    return Reply(7, count, 0, 0) if count > cells else Reply(0, count, visits, 0)
 
 
 class Program:

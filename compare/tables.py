@@ -264,11 +264,16 @@ def segments_in(arguments):
     return document.segments_of(arguments["table"], descriptor_of(arguments))
 
 
-def old_cells(r, need):
-    """A buffer that suffices, with what stood in it before: anything."""
+def some_cells(r, count):
+    """A buffer with what stood in it before: anything."""
     cells = array("i")
-    cells.frombytes(r.randbytes(cells.itemsize * (need + r.choice([0, 0, 1, 5]))))
+    cells.frombytes(r.randbytes(cells.itemsize * count))
     return cells.tolist()
+
+
+def old_cells(r, need):
+    """A buffer that suffices."""
+    return some_cells(r, need + r.choice([0, 0, 1, 5]))
 
 
 # ---------------------------------------------------------------- Good calls
@@ -288,9 +293,23 @@ def build_call(r, arguments):
     return Call("build", {**arguments, "index": old_cells(r, document.words_for(arguments["n"]))})
 
 
+def numbers_most(index):
+    """How many numbers one query of these words can list: the n of their header, if they have one."""
+    return max(0, min(index[0], SEGMENTS_MOST)) if index else 0
+
+
 def query_call(r, index, window):
-    n = index[0] if index else 0
-    return Call("query", {"index": index, **window._asdict(), "numbers": old_cells(r, a_room(r, max(0, min(n, SEGMENTS_MOST))))})
+    return Call("query", {"index": index, **window._asdict(), "numbers": old_cells(r, a_room(r, numbers_most(index)))})
+
+
+def many_call(r, index, windows, spare=None):
+    """Windows in one slice. Count cells and number cells are mostly as many as are needed, one fewer, or one more."""
+    edges = [edge for window in windows for edge in window]
+    due = document.query_many(index, edges, [0] * len(windows), [])[0].count
+    count_cells = len(windows) + r.choice([0, 0, 0, 0, 0, 1, 1, 5, -1 if chance(r, 20) else 2])
+    spare = r.choice([0, 0, 0, 1, 7, -1, -1, -due, -r.randint(0, due)]) if spare is None else spare
+    counts, numbers = some_cells(r, max(0, count_cells)), some_cells(r, max(0, due + spare))
+    return Call("query_many", {"index": index, "windows": edges, "counts": counts, "numbers": numbers})
 
 
 def an_index(r, segments):

@@ -13,6 +13,7 @@ typedef struct kalinosz_table {
 } kalinosz_table;
 
 enum { CELL = sizeof(int32_t), COORDINATES = 4 };
+enum { EDGE = sizeof(int64_t), EDGES = 4 };
 enum { NO_KIND = 0 };                     /* refused with 1 */
 static const int64_t NO_STRIDE = INT64_MAX; /* refused with 4 */
 
@@ -51,7 +52,7 @@ kalinosz_table kalinosz_describe_array(const CFI_cdesc_t *array) {
     return table;
 }
 
-/* How many cells an array of rank 1 lends: all if they lie one after another, as the interface asks for, and otherwise none, which is refused with 7 or 9. */
+/* How many cells an array of rank 1 lends: all if they lie one after another, as the interface asks for, and otherwise none, which is refused with 7, 9 or 14. */
 static size_t lent(const CFI_cdesc_t *array) {
     int whole = array->base_addr != NULL && (array->dim[0].sm == CELL || array->dim[0].extent == 1);
     return whole && array->dim[0].extent > 0 ? (size_t)array->dim[0].extent : 0;
@@ -71,6 +72,27 @@ kalinosz_reply kalinosz_build_array(const CFI_cdesc_t *array, const CFI_cdesc_t 
 
 kalinosz_reply kalinosz_query_array(const CFI_cdesc_t *index, int64_t a, int64_t b, int64_t c, int64_t d, const CFI_cdesc_t *numbers) {
     return kalinosz_query(index->base_addr, lent(index), a, b, c, d, numbers->base_addr, lent(numbers));
+}
+
+/* The edges of an array of windows, dimension 1 being the four of a window: all if they lie one after another, as the interface asks for, and otherwise
+   a single number. That is no window and refused with 14, where no number at all would be no windows and done. */
+typedef struct slice {
+    const int64_t *edges;
+    size_t length;
+} slice;
+
+static slice slice_of(const CFI_cdesc_t *windows) {
+    static const int64_t no_window = 0;
+    const CFI_dim_t *edge = &windows->dim[0], *window = &windows->dim[1];
+    int whole = edge->extent == EDGES && edge->sm == EDGE && (window->extent < 2 || window->sm == EDGES * EDGE);
+    slice all = {windows->base_addr, EDGES * (size_t)window->extent}, refused = {&no_window, 1};
+    return whole ? all : refused;
+}
+
+kalinosz_reply kalinosz_query_many_array(const CFI_cdesc_t *index, const CFI_cdesc_t *windows, const CFI_cdesc_t *counts, const CFI_cdesc_t *numbers) {
+    slice s = slice_of(windows);
+    return kalinosz_query_many(
+        index->base_addr, lent(index), s.edges, s.length, counts->base_addr, lent(counts), numbers->base_addr, lent(numbers));
 }
 
 kalinosz_reply kalinosz_write_wkt_array(const CFI_cdesc_t *array, uint8_t *text, size_t bytes) {

@@ -23,7 +23,7 @@ module kalinosz
   !   _pointer      the pointer's own lower bound of dimension 2 numbers the segments
   !   _allocatable  the allocated lower bound does
   !   _shape        any array or section, numbered as kind 3, from 1: a lower bound does not travel with it
-  ! numbers and index are arrays of one dimension; a section of one with a step is packed and unpacked by the compiler.
+  ! numbers, counts and index are arrays of one dimension; a section of one with a step is packed and unpacked by the compiler.
 
   interface
     function kalinosz_scan_pointer(table, a, b, c, d, numbers) bind(C, name="kalinosz_scan_array") result(reply)
@@ -76,6 +76,17 @@ module kalinosz
       integer(c_int32_t), contiguous, intent(in) :: index(:)
       integer(c_int64_t), value :: a, b, c, d
       integer(c_int32_t), contiguous, intent(inout) :: numbers(:)
+      type(kalinosz_reply) :: reply
+    end function
+
+    ! Many windows in one call: windows(:, i) is a b c d, at most 64 of them. counts(i) becomes how many numbers window i has; in
+    ! numbers those of windows(:, 1) come first, then those of windows(:, 2), and so on. A window at fault (8, 10) is
+    ! windows(:, reply%position + 1).
+    function kalinosz_query_many_array(index, windows, counts, numbers) bind(C) result(reply)
+      import
+      integer(c_int32_t), contiguous, intent(in) :: index(:)
+      integer(c_int64_t), contiguous, intent(in) :: windows(:, :)
+      integer(c_int32_t), contiguous, intent(inout) :: counts(:), numbers(:)
       type(kalinosz_reply) :: reply
     end function
 
@@ -153,6 +164,16 @@ module kalinosz
       integer(c_size_t), value :: words, cells
       integer(c_int64_t), value :: a, b, c, d
       integer(c_int32_t), intent(inout) :: numbers(*)
+      type(kalinosz_reply) :: reply
+    end function
+
+    ! windows(4, m) lies as the call wants it; edges is size(windows, kind=c_size_t).
+    function kalinosz_query_many(index, words, windows, edges, counts, count_cells, numbers, cells) bind(C) result(reply)
+      import
+      integer(c_int32_t), intent(in) :: index(*)
+      integer(c_size_t), value :: words, edges, count_cells, cells
+      integer(c_int64_t), intent(in) :: windows(*)
+      integer(c_int32_t), intent(inout) :: counts(*), numbers(*)
       type(kalinosz_reply) :: reply
     end function
 

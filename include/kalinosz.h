@@ -10,6 +10,7 @@
      n                   0 to 4096
      strides             -1048576 to 1048576
      coordinates, edges  -536870912 to 536870912
+     windows of a call   0 to 64 (kalinosz_query_many)
 
    A WINDOW is a <= b in x and c <= d in y; all four edges belong to it. A segment meets it if they share a point, whole or fractional.
 
@@ -17,8 +18,7 @@
    no pointer, allocates nothing, holds no state and may be called from several threads at once, as long as none writes what another uses. An array
    that is written must not overlap another of the same call. An array of length 0 may be NULL. Lengths must be true: nothing can check them from inside.
 
-   ANSWERS. Each call answers by number (below). A refusal returns count, visits and position 0 except where it says otherwise, and changes no buffer,
-   but for KALINOSZ_SPOILED. */
+   ANSWERS. Each call answers by number (below). A refusal returns count, visits and position 0 except where it says otherwise, and changes no buffer. */
 #ifndef KALINOSZ_H
 #define KALINOSZ_H
 
@@ -37,20 +37,25 @@ enum kalinosz_answer {
     KALINOSZ_STRIDES = 4,    /* a stride beyond its limits */
     KALINOSZ_COORDINATE = 5, /* a coordinate beyond its limits; reply.position is the first such position */
     KALINOSZ_SLANTED = 6,    /* build only: a segment neither horizontal nor vertical; reply.position is the first such position */
-    KALINOSZ_SHORT = 7,      /* build: index below kalinosz_words(n) words; scan, query: numbers below the numbers due, and reply.count is how many those are; read: fewer than 4 cells a line; write: text too short */
-    KALINOSZ_WINDOW = 8,     /* a > b, c > d, or an edge beyond its limits */
+    KALINOSZ_SHORT = 7,      /* build: index below kalinosz_words(n) words; scan, query: numbers below the numbers due, to all of many windows together, and
+                                reply.count is how many those are; read: fewer than 4 cells a line; write: text too short */
+    KALINOSZ_WINDOW = 8,     /* a > b, c > d, or an edge beyond its limits; of many windows reply.position is the first such window, from 0 */
     KALINOSZ_INDEX = 9,      /* these words are no index: fewer than 4, bad n, lower bound or counts, or fewer than kalinosz_words(n) */
-    KALINOSZ_SPOILED = 10,   /* the query read a spoiled word */
+    KALINOSZ_SPOILED = 10,   /* the query read a spoiled word; of many windows reply.position is the first window, from 0, whose walk did */
     KALINOSZ_PLACE = 11,     /* kalinosz_cell only: no such position or coordinate */
     KALINOSZ_OUTSIDE = 12,   /* an addressed cell outside the table; reply.position is the first such position, reply.count its first such coordinate */
-    KALINOSZ_TEXT = 13       /* a text of another form; reply.position is the first byte after which no accepted text can follow, or the text's length */
+    KALINOSZ_TEXT = 13,      /* a text of another form; reply.position is the first byte after which no accepted text can follow, or the text's length */
+    KALINOSZ_SLICE = 14      /* many windows only: edges that are no whole number of windows, over 64 windows, or fewer count cells than windows */
 };
 
 typedef struct kalinosz_reply {
     int64_t number;   /* the answer, one of the above */
-    int64_t count;    /* scan, query: how many numbers were written; build: how many words; read: how many lines; write: how many bytes; answer 7 of scan, query: how many numbers are due; answer 12: the coordinate, 0 to 3; otherwise 0 */
-    int64_t visits;   /* query: the steps of the walk, at most 4L^2 + 15L + 2 + 2 count on built words (L: binary digits of n); otherwise 0 */
-    int64_t position; /* the first position at fault (5, 6, 12), or the byte of a text (13); otherwise 0. A position counts from 0, whatever the lower bound */
+    int64_t count;    /* scan, query: how many numbers were written; build: how many words; read: how many lines; write: how many bytes;
+                         answer 7 of scan, query: how many numbers are due; answer 12: the coordinate, 0 to 3; otherwise 0 */
+    int64_t visits;   /* query: the steps of the walk, at most 4L^2 + 15L + 2 + 2 count on built words (L: binary digits of n); of many windows the sum of theirs;
+                         otherwise 0 */
+    int64_t position; /* the first position at fault (5, 6, 12), the byte of a text (13), or the first of many windows at fault (8, 10); otherwise 0.
+                         All of them count from 0, whatever the lower bound */
 } kalinosz_reply;
 
 /* Lists the numbers of all segments, slanted ones too, that meet the window, ascending, in numbers[0 .. count-1]; later cells keep their values.
@@ -74,6 +79,17 @@ kalinosz_reply kalinosz_build(
 kalinosz_reply kalinosz_query(
     const int32_t *index, size_t words,
     int64_t a, int64_t b, int64_t c, int64_t d,
+    int32_t *numbers, size_t cells);
+
+/* Asks many windows in one call, as kalinosz_query would one after another. windows[4 i .. 4 i + 3] are a b c d of window i, and edges is how many numbers those are:
+   4 for each window. counts[i] becomes how many numbers window i has; in numbers those of window 0 come first, then those of window 1, and so on. count is how many
+   they are in all. Later cells of both arrays keep their values. With no windows the call is done, with count 0.
+   Lend one count cell for each window. n number cells for each always hold the numbers; with fewer look at count, which a 7 returns for all windows together, and
+   lend again. Answers, the first that applies: 9, 14, 8, 10, 7. All windows are judged for 8 before one is walked. */
+kalinosz_reply kalinosz_query_many(
+    const int32_t *index, size_t words,
+    const int64_t *windows, size_t edges,
+    int32_t *counts, size_t count_cells,
     int32_t *numbers, size_t cells);
 
 /* Reads a table from well-known text (OGC 06-103r4): MULTILINESTRING where every line has exactly two points with whole coordinates, no Z or M. EMPTY is a

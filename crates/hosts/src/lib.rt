@@ -1,9 +1,9 @@
-// What C hosts call: three answers on plain numbers, a refusal as its negative, and the scan, the builder and the query on lent buffers.
+// What C hosts call: three answers on plain numbers, a refusal as its negative, and the scan, the builder and the queries on lent buffers.
 // Each is a few lines over the crates below; include/kalinosz.h tells C of them.
 ghost use mathlib.Core.Path.{_≡_};
 ghost use Rattle.paper.specs.Answers.{badPlace};
 ghost use Rattle.paper.specs.Hosts.{hostCell, hostWords, HostMeet};
-ghost use Rattle.paper.specs.Results.{Scanned, built, queried};
+ghost use Rattle.paper.specs.Results.{Scanned, built, queried, queriedMany};
 ghost use Rattle.paper.specs.Wkt.{Read, written};
 ghost use Rattle.hosts.specs.Answered.{cellAnswer};
 use paper::Descriptor;
@@ -203,6 +203,18 @@ pub extern "C" fn kalinosz_query(
     ensures { λ r. ⌜ (r, now (numbers .exit)) ≡ queried (now (index .entry)) (record { a = a; b = b; c = c; d = d }) (now (numbers .entry)) ⌝ }
 {
     marks::query(index, window_of(a, b, c, d), numbers)
+}
+
+#[no_mangle]
+pub extern "C" fn kalinosz_query_many(
+    index: &[i32],
+    windows: &[i64],
+    counts: &mut [i32],
+    numbers: &mut [i32],
+) -> Reply
+    ensures { λ r. ⌜ (r, now (counts .exit), now (numbers .exit)) ≡ queriedMany (now (index .entry)) (now (windows .entry)) (now (counts .entry)) (now (numbers .entry)) ⌝ }
+{
+    windows::query(index, windows, counts, numbers)
 }
 
 // ---- tables as text (request E3)

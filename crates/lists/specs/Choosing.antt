@@ -9,11 +9,11 @@ use native.Mathlib.Omega.{arith}
 use native.Mathlib.Numerals.{add-one}
 use native.Mathlib.Nat.{not-suc-le-zero, lt-irrefl, le-of-lt, le-refl}
 use native.Mathlib.Decide.{decLt}
-use lib.Dec.{T, eqb, ltb}
+use lib.Dec.{T, eqb, ltb, lt→ltb}
 use lib.ListN.{length, getD, length-append, length-map, List·getD-append}
 use borrow.Author.Tests.{lt-ltb, le-ltb}
 use Rattle.lists.specs.Plain.{positions, filter, count, any, joined}
-use Rattle.lists.specs.Tests.{gate, clash, or-assoc, or-none, or-left, or-right}
+use Rattle.lists.specs.Tests.{by-test, holds, gate, gate-yes, clash, or-assoc, or-none, or-left, or-right}
 use Rattle.lists.specs.Filters.{filter-none, filter-same}
 use Rattle.lists.specs.Counting.{filter-count, filter-length, count-le, count-at}
 use Rattle.lists.specs.Every.{All, Sorted, all-map, all-append}
@@ -143,6 +143,14 @@ module _ {q : ℕ → Bool} {n : ℕ} where
   ended h b = record { within = le-refl n; before = λ k l. b k (omega arith); here = λ l. absurd (lt-irrefl n l) }
 
   -- none is found where none passes
+  -- none passes: it is the end that is found
+  pub at-end : {r : ℕ} → First q n r → ((k : ℕ) → k < n → q k ≡ false) → r ≡ n
+  at-end {r = r} f h = go (decLt r n)
+    where
+      go : Dec (r < n) → r ≡ n
+      go (yes l) = clash (sym (f .here l) ∙ h r l)
+      go (no l) = omega (arith, f .within)
+
   pub none-found : any q (positions n) ≡ false → First q n n
   none-found h = ended (le-refl n) (λ k l. none-at q n k h l)
 
@@ -179,6 +187,22 @@ module _ {A : Type 0} (q : A → Bool) (part : ℕ → List A) where
 -- ---- how often a number is among those that pass: once if it is a position and passes, otherwise never
 pub count-chosen : (q : ℕ → Bool) (n p : ℕ) → count (eqb p) (filter q (positions n)) ≡ gate (q p) (gate (ltb p n) 1)
 count-chosen q n p = filter-count (eqb p) q (positions n) ∙ count-at q p (positions n) ∙ ap (gate (q p)) (positions-count p n)
+
+-- where none passes, read at one
+pub none-chosen : (q : ℕ → Bool) (n i : ℕ) → filter q (positions n) ≡ [] → i < n → q i ≡ false
+unfolding count
+none-chosen q n i e h =
+    by-test (q i)
+    (λ t.
+    absurd
+    (omega (
+      arith,
+      count-chosen q n i,
+      ap (count (eqb i)) e,
+      gate-yes (q i) (gate (ltb i n) 1) (holds t),
+      gate-yes (ltb i n) 1 (lt→ltb i n h),
+    )))
+    (λ f. f)
 
 -- ---- positions ascend, and so do those that pass
 pub sorted-snoc : {A : Type 0} {R : A → A → Type 0} {l : List A} {z : A} → Sorted R l → All (λ x. R x z) l → Sorted R (l ++ (z ∷ []))

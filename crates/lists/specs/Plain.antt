@@ -77,6 +77,10 @@ module _ {A : Type 0} where
 abbrev pub elem : ℕ → List ℕ → Bool
 elem p ps = any (eqb p) ps
 
+unfoldable pub sum : List ℕ → ℕ
+sum [] = 0
+sum (k ∷ ks) = k + sum ks
+
 -- ---- orders: a strict order is a test, "x comes before y"
 
 module _ {A : Type 0} where

@@ -1,4 +1,4 @@
--- Plain's `positions` (0 to n − 1, each once) and `joined` (lists one after another): lengths, what they hold, and where they fall apart.
+-- Plain's `positions` (0 to n − 1, each once), `joined` (lists one after another) and `sum`: lengths, what they hold, and where they fall apart.
 -- Use: `positions-count` and Counting's `count-at` say how often a number stands among the positions that pass a test; `joined-keeps` for a function
 -- that keeps lengths, `numbered-length` for numbered parts of one length. Assumes nothing.
 use mathlib.Core.Path.{_≡_, refl, sym, ap, subst, _∙_}
@@ -8,7 +8,7 @@ use Prim.Native.Nat.{ℕ, zero, suc, _+_, _*_, _≤_, _<_}
 use native.Mathlib.Omega.{arith}
 use lib.ListN.{length, length-append}
 use lib.Dec.{T, T-not, eqb, eqb→eq, eqb-refl, ltb, ltb→lt, nltb→le}
-use Rattle.lists.specs.Plain.{positions, joined, count}
+use Rattle.lists.specs.Plain.{positions, joined, sum, count}
 use Rattle.lists.specs.Tests.{gate}
 use Rattle.lists.specs.Every.{All, all-append}
 use Rattle.lists.specs.Counting.{count-append}
@@ -81,3 +81,33 @@ module _ {A : Type 0} where
   numbered-length f size each zero = omega arith
   numbered-length f size each (suc m) =
       rw (numbered-suc f m) (omega (arith, length-append (joined (map f (positions m))) (f m), numbered-length f size each m, each m))
+
+  -- as long as the lists together
+  pub joined-length : (l : List (List A)) → length (joined l) ≡ sum (map length l)
+  unfolding joined sum
+  joined-length [] = refl
+  joined-length (x ∷ l) = omega (arith, length-append x (joined l), joined-length l)
+
+-- ---- sums
+
+pub sum-append : (l m : List ℕ) → sum (l ++ m) ≡ sum l + sum m
+unfolding sum
+sum-append [] m = omega arith
+sum-append (k ∷ l) m = omega (arith, sum-append l m)
+
+-- one numbered part more
+pub summed-suc : (f : ℕ → ℕ) (m : ℕ) → sum (map f (positions (suc m))) ≡ sum (map f (positions m)) + f m
+unfolding positions sum
+summed-suc f m = ap sum (map-append f (positions m) (m ∷ [])) ∙ omega (arith, sum-append (map f (positions m)) (f m ∷ []))
+
+-- numbered parts that are each at most so great
+pub summed-most : (f : ℕ → ℕ) (most : ℕ) → ((k : ℕ) → f k ≤ most) → (m : ℕ) → sum (map f (positions m)) ≤ most * m
+unfolding positions sum
+summed-most f most each zero = omega arith
+summed-most f most each (suc m) = omega (arith, summed-suc f m, summed-most f most each m, each m)
+
+-- two sums, one of which is nowhere the greater
+pub sum-below : {A : Type 0} (f g : A → ℕ) (l : List A) → ((x : A) → f x ≤ g x) → sum (map f l) ≤ sum (map g l)
+unfolding sum
+sum-below f g [] h = omega arith
+sum-below f g (x ∷ l) h = omega (arith, h x, sum-below f g l h)

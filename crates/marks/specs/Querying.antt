@@ -7,9 +7,8 @@ use native.Mathlib.Omega.{arith}
 use borrow.Author.Tests.{lt-ltb, le-ltb}
 use lib.IntN.{ℤ, pos}
 use lib.ListN.{length, take, drop, length-map}
-use lib.Seq.{take-at}
 use Rattle.lists.specs.Tests.{clash}
-use Rattle.lists.specs.Filling.{filled, filled-all, filled-length}
+use Rattle.lists.specs.Filling.{filled, filled-all, filled-front, filled-length}
 use Rattle.paper.specs.Descriptor.{numberOf}
 use Rattle.paper.specs.Answers.{badWindow, refused, done}
 use Rattle.paper.specs.Orders.{badIndex, isStopped, dueBy}
@@ -17,15 +16,11 @@ use Rattle.paper.specs.Walk.{word, sizeIn, Walked, walked, stopped, walkOf}
 use Rattle.paper.specs.Results.{Result, over, numbersOf, listing, queried}
 use Rattle.paper.specs.Demands.{QueryPromise, QueryPromises}
 use Rattle.promise.specs.Demands.{query-promise}
+use Rattle.promise.specs.Calls.{listedIn}
 use Rattle.paper.specs.declared.Window.{Window}
 use Rattle.tally.specs.Fold.{Given}
 use Rattle.tally.specs.declared.Tally.{Tally}
 use Rattle.refusals.specs.Orders.{refusalAt}
-
--- the positions that a walk which has ended lists
-abbrev pub listedIn : Walked → List ℕ
-listedIn (walked ps v) = ps
-listedIn stopped = []
 
 -- a walk that has ended, and the room that it was walked into: where that holds the `due` numbers, they stand at its front
 pub record Due (ws : List ℤ) (w : Window) (room : List ℤ) (due : ℕ) : Type 0 where
@@ -62,11 +57,6 @@ module _ (n : ℕ) (first : ℤ) (room : List ℤ) where
       }
   ended stopped t cells g h = absurd (omega (arith, g .0))
 
--- the numbers at the front of what was filled, where there is room for all
-pub front-of : (new cells : List ℤ) (k : ℕ) → k ≡ length new → k ≤ length cells → take k (filled new cells) ≡ new
-front-of new cells k e h =
-    ap (take k) (filled-all new cells (omega (arith, e, h))) ∙ take-at new (drop (length new) cells) k (sym e)
-
 module _ (ws : List ℤ) (w : Window) (numbers : List ℤ) where
   pub with-promise : {r : Result} → r ≡ queried ws w numbers → (r ≡ queried ws w numbers) × QueryPromises ws w numbers r
   with-promise e = (e, λ first segments index good. subst (QueryPromise first segments w (length numbers)) (sym e) (query-promise first segments w ws numbers index good))
@@ -101,7 +91,7 @@ module _ (ws : List ℤ) (w : Window) (numbers : List ℤ) where
           sound = e9;
           ends = o .ends;
           count = o .count;
-          front = λ h. ap (take (t .listed)) (o .cellsAre) ∙ front-of (numbersOf (word ws 1) (listedIn (walkOf ws w))) room (t .listed) size (omega (arith, h, kept));
+          front = λ h. ap (take (t .listed)) (o .cellsAre) ∙ filled-front (numbersOf (word ws 1) (listedIn (walkOf ws w))) room (t .listed) size (omega (arith, h, kept));
         }
           where
             size : t .listed ≡ length (numbersOf (word ws 1) (listedIn (walkOf ws w)))

@@ -67,8 +67,7 @@ pub fn build(table: &[i32], descriptor: Descriptor, index: &mut [i32]) -> Reply
 
 // The numbers that the walk of an index lists for a window, into the first cells; order 9, 8, 10, 7.
 // Words that are an index of a table's segments and a good window promise each meeting segment's number once and no other, and few visits; where the cells
-// do not hold them, answer 7 and how many they are. The walk lists into a room of its own first, so that no refusal has changed a cell; a small index
-// has a small one, since clearing it takes time.
+// do not hold them, answer 7 and how many they are. The walk lists into a room of its own first, so that no refusal has changed a cell.
 pub fn query(words: &[i32], window: Window, numbers: &mut [i32]) -> Reply
     ensures { λ r. ⌜ (r, now (numbers .exit)) ≡ queried (now (words .entry)) window (now (numbers .entry)) ⌝ }
     ensures promise { λ r. ⌜ QueryPromises (now (words .entry)) window (now (numbers .entry)) (r, now (numbers .exit)) ⌝ }
@@ -79,10 +78,5 @@ pub fn query(words: &[i32], window: Window, numbers: &mut [i32]) -> Reply
     if meeting::bad_window(window) {
         return refusals::refusal(8, 0, 0);
     }
-    if tally::whole_at(words, 0, 0) <= 256 {
-        let mut room = [0i32; 256];
-        return listing::answer(words, window, &mut room, numbers);
-    }
-    let mut room = [0i32; 2048];
-    listing::answer(words, window, &mut room, numbers)
+    listing::answer(words, window, numbers)
 }

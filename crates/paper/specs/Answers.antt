@@ -1,14 +1,15 @@
 -- Document 01, "Answer numbers": what each answer is given for, and the orders.
 use mathlib.Core.Bool.{Bool, true, false, not, _&&_, _||_, cond}
 use mathlib.Core.List.{List, [], _∷_}
-use Prim.Native.Nat.{ℕ}
+use Prim.Native.Nat.{ℕ, _*_}
 use lib.IntN.{ℤ, pos}
-use lib.Dec.{ltb}
+use lib.Dec.{eqb, ltb}
 use lib.Signed.{leZ, ltZ}
 use lib.ListN.{length}
 use Rattle.lists.specs.Plain.{same, within, filter, positions}
-use Rattle.paper.specs.Limits.{extentFits, lowerFits, strideFits, coordinateFits}
+use Rattle.paper.specs.Limits.{mostWindows, extentFits, lowerFits, strideFits, coordinateFits}
 use Rattle.paper.specs.Descriptor.{outsideCells, at}
+use Rattle.paper.specs.Windows.{windowCount, windowsWhere}
 use Rattle.paper.specs.declared.Descriptor.{Descriptor}
 use Rattle.paper.specs.declared.Segment.{Segment}
 use Rattle.paper.specs.declared.Window.{Window}
@@ -89,11 +90,19 @@ badWindow w =
     (ltZ (w .b) (w .a) || ltZ (w .d) (w .c)
     || not (coordinateFits (w .a) && coordinateFits (w .b) && coordinateFits (w .c) && coordinateFits (w .d)))
 
+-- 8 of many windows (request E5): the first bad one returned as position
+abbrev pub badWindows : List ℤ → Answer
+badWindows edges = answerAt 8 (windowsWhere (λ w. badWindow w .given) edges)
+
 -- 9 and 10 are in Orders, above the words and the walk that they speak of
 
 -- 11: C only: position not in 0 to n − 1, or coordinate not in 0 to 3
 abbrev pub badPlace : ℤ → ℤ → ℤ → Answer
 badPlace n i j = answer 11 (ltZ i (pos 0) || leZ n i || not (within (pos 0) (pos 3) j))
+
+-- 14 (request E5): a slice not of whole windows, over 64 of them, or fewer count cells than windows
+abbrev pub badSlice : List ℤ → ℕ → Answer
+badSlice edges lent = answer 14 (not (eqb (4 * windowCount edges) (length edges)) || ltb mostWindows (windowCount edges) || ltb lent (windowCount edges))
 
 -- ---- an order is a list: the first that is given decides; where none is, the call is done
 abbrev pub judged {ℓ} : {A : Type ℓ} → List Answer → (Answer → A) → A → A

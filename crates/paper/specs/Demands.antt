@@ -2,20 +2,21 @@
 -- Demand 1 (every call ends, reads only cells that exist, refuses by number) is what a contract `.. ≡ scanned/built/queried ..` without `requires` says.
 use mathlib.Core.Path.{_≡_}
 use mathlib.Core.Bool.{Bool, true, false, not, _&&_}
-use mathlib.Core.List.{List, [], _∷_, _++_}
+use mathlib.Core.List.{List, [], _∷_, _++_, map}
 use Prim.Native.Nat.{ℕ, _+_, _*_, _≤_, _<_}
 use lib.Dec.{eqb}
 use lib.IntN.{ℤ, pos}
 use lib.Signed.{ltZ, leZ, _≤ℤ_}
 use lib.ListN.{length, take}
-use Rattle.lists.specs.Plain.{within, same, toNat, count}
+use Rattle.lists.specs.Plain.{within, same, toNat, count, joined, sum}
 use Rattle.paper.specs.Limits.{mostSegments, lowerFits}
 use Rattle.paper.specs.Descriptor.{at, numberOf, firstNumber, segmentsOf}
 use Rattle.paper.specs.Meeting.{Meets}
-use Rattle.paper.specs.Answers.{positionsOf, badCoordinate, badSlant, badWindow}
+use Rattle.paper.specs.Answers.{positionsOf, badCoordinate, badSlant, badWindow, badWindows, badSlice}
+use Rattle.paper.specs.Windows.{windowsOf}
 use Rattle.paper.specs.Words.{L, Axis, horizontal, vertical, isHorizontal, lowFirst, indexWords}
 use Rattle.paper.specs.Walk.{Walked, walked, walkOf}
-use Rattle.paper.specs.Results.{Result, Decides}
+use Rattle.paper.specs.Results.{Result, ManyResult, Decides}
 use Rattle.paper.specs.declared.Descriptor.{Descriptor}
 use Rattle.paper.specs.declared.Segment.{Segment}
 use Rattle.paper.specs.declared.Window.{Window}
@@ -139,3 +140,29 @@ QueryPromises ws w numbers r =
     → IndexOf first segments ws
     → badWindow w .given ≡ false
     → QueryPromise first segments w (length numbers) r
+
+-- what a query of many windows that is done promises its caller (request E5): one count for each window, the numbers due to each one after another,
+-- and demand 3 for each, in the sum
+pub record ManyDone (segments : List Segment) (windows : List Window) (due : Window → List ℤ) (r : ManyResult) : Type 0 where
+  pub isDone : r .0 .number ≡ pos 0
+  pub total : r .0 .count ≡ pos (length (joined (map due windows)))
+  pub counts : take (length windows) (r .1) ≡ map (λ w. pos (length (due w))) windows
+  pub numbers : take (length (joined (map due windows))) (r .2) ≡ joined (map due windows)
+  pub few : r .0 .visits ≤ℤ pos (sum (map (λ w. mostVisits (length segments) (length (due w))) windows))
+
+-- what it promises on words that are an index of segments, where the slice and all its windows are good: each window has its numbers due, which are those
+-- that demand 2 asks for, whatever the other windows are
+pub record ManyPromise (first : ℤ) (segments : List Segment) (windows : List Window) (lent : ℕ) (r : ManyResult) : Type 0 where
+  pub due : Window → List ℤ
+  pub dueOnce : (w : Window) → badWindow w .given ≡ false → ListsNumbers first segments w (due w)
+  pub dueFew : (w : Window) → badWindow w .given ≡ false → length (due w) ≤ length segments
+  pub fits : length (joined (map due windows)) ≤ lent → ManyDone segments windows due r
+  pub short : lent < length (joined (map due windows)) → (r .0 .number ≡ pos 7) × (r .0 .count ≡ pos (length (joined (map due windows))))
+
+abbrev pub ManyPromises : List ℤ → (edges counts numbers : List ℤ) → ManyResult → Type 0
+ManyPromises ws edges counts numbers r =
+    (first : ℤ) (segments : List Segment)
+    → IndexOf first segments ws
+    → badSlice edges (length counts) .given ≡ false
+    → badWindows edges .given ≡ false
+    → ManyPromise first segments (windowsOf edges) (length numbers) r

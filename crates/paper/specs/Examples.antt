@@ -5,17 +5,18 @@
 use mathlib.Core.List.{List, [], _∷_, _++_}
 use lib.IntN.{ℤ, pos, negℤ}
 use lib.ListN.{replicate, set}
-use Rattle.lists.specs.Plain.{digitsTo, positions, filter, count, any, last, joined, insert, sort}
+use Rattle.lists.specs.Plain.{digitsTo, positions, filter, count, any, last, joined, sum, insert, sort}
 use Rattle.paper.specs.Descriptor.{addressed, segmentsOf}
 use Rattle.paper.specs.Words.{nodes, levelWords, levelsWords, queueWordsTo, blockWordsTo, indexWords}
 use Rattle.paper.specs.Walk.{searchTo, slotsWalk, nodeAt, nodeWalk, queueAt, queueWalkTo, blockAt, blockWalkTo, walk, step, run, walkOf}
-use Rattle.paper.specs.Results.{built, listing, queried, scanned}
+use Rattle.paper.specs.Results.{built, listing, queried, inTurn, queriedMany, scanned}
 use Rattle.paper.specs.Hosts.{hostCell, hostWords, hostMeet}
 use Rattle.paper.specs.Lines.{parts, withoutEmptyLast, valueFrom, numbersIn, lineOf, decimalTo, tabbed, read, fromLine, program, bytes}
 use Rattle.paper.specs.Rows.{
   Row,
   build,
   query,
+  many,
   ask,
   scan,
   words,
@@ -215,6 +216,41 @@ queryRows =
     ∷ query (set tiedWords 56 (pos 6)) (window "2 3 7 9") (sevens 9) (reply "10 0 0 0", sevens 9)
     ∷ []
 
+-- ---- many windows: 9, 14, 8, 10, 7
+
+-- the index of one segment, and with its centre changed, so that a window that lists it lists it twice: 10
+abbrev oneWords : List ℤ
+oneWords = cells "1 1 1 0 0 2 6 2 0 0 0 1 0 0 0 0 0 0"
+
+abbrev spoiledWords : List ℤ
+spoiledWords = cells "1 1 1 0 0 2 6 2 0 0 -5 1 0 0 0 0 0 0"
+
+abbrev manyRows : List Row
+manyRows =
+    -- 9 before 14
+    many (cells "1 1 1") (cells "1 0 0") [] [] (reply "9 0 0 0", [], [])
+    -- 14: three numbers, or five; 65 windows; a count cell too few; each with a bad window too
+    ∷ many oneWords (cells "1 0 0") (sevens 1) [] (reply "14 0 0 0", sevens 1, [])
+    ∷ many oneWords (cells "1 0 0 0 0") (sevens 2) [] (reply "14 0 0 0", sevens 2, [])
+    ∷ many oneWords (cells "1 0 0 0" ++ zeros 256) (sevens 65) [] (reply "14 0 0 0", sevens 65, [])
+    ∷ many oneWords (cells "1 0 0 0 0 0 0 0") (sevens 1) [] (reply "14 0 0 0", sevens 1, [])
+    -- 8: the first bad window is returned, also where the walk of one before it is spoiled
+    ∷ many spoiledWords (cells "0 5 1 3 1 0 0 0 2 0 0 0") (sevens 3) [] (reply "8 0 0 1", sevens 3, [])
+    -- 10: the first whose walk is spoiled is returned, also where there are too few number cells for one before it
+    ∷ many spoiledWords (cells "0 5 3 3 0 5 1 3 0 5 1 3") (sevens 3) [] (reply "10 0 0 1", sevens 3, [])
+    ∷ many spoiledWords (cells "3 5 1 3 0 5 1 3") (sevens 3) [] (reply "10 0 0 1", sevens 3, [])
+    -- 7: the total due is returned as count; one cell more holds it. A window's count is its own
+    ∷ many oneWords (cells "3 5 1 3 3 5 3 3 3 5 1 3") (sevens 4) (sevens 1) (reply "7 2 0 0", sevens 4, sevens 1)
+    ∷ many oneWords (cells "3 5 1 3 3 5 3 3 3 5 1 3") (sevens 4) (sevens 2) (reply "0 2 12 0", cells "1 0 1 7", cells "1 1")
+    ∷ many oneWords (cells "3 5 3 3") (sevens 1) [] (reply "0 0 4 0", cells "0", [])
+    -- the single queries joined, their visits added; what stands after keeps its value
+    ∷ many tiedWords (cells "1 3 2 2 2 3 9 9 7 9 2 2") (sevens 4) (sevens 7) (reply "0 5 57 0", cells "4 0 1 7", cells "10 12 13 14 10 7 7")
+    -- no windows: done with 0, but 9 is still judged; 64 windows
+    ∷ many oneWords [] (sevens 1) (sevens 1) (reply "0 0 0 0", sevens 1, sevens 1)
+    ∷ many (cells "1 1 1") [] [] [] (reply "9 0 0 0", [], [])
+    ∷ many (cells "0 1 0 0") (zeros 256) (sevens 65) (sevens 1) (reply "0 0 0 0", zeros 64 ++ sevens 1, sevens 1)
+    ∷ []
+
 -- ---- C hosts: 3, 4, 12, 11, there without a place; a length below 0 holds no cell; 8, 5
 
 abbrev hostRows : List Row
@@ -271,8 +307,8 @@ programRows =
     ∷ []
 
 abbrev table : List Row
-table = exampleRows ++ (wordRows ++ (builderRows ++ (scanRows ++ (queryRows ++ (hostRows ++ programRows)))))
+table = exampleRows ++ (wordRows ++ (builderRows ++ (scanRows ++ (queryRows ++ (manyRows ++ (hostRows ++ programRows))))))
 
 pub examples : All table
-unfolding bytes positions filter count any last joined insert sort addressed segmentsOf digitsTo nodes levelWords levelsWords queueWordsTo blockWordsTo indexWords searchTo slotsWalk nodeAt nodeWalk queueAt queueWalkTo blockAt blockWalkTo walk step run walkOf built listing queried scanned hostCell hostWords hostMeet parts withoutEmptyLast valueFrom numbersIn lineOf decimalTo tabbed read fromLine program
+unfolding bytes positions filter count any last joined sum insert sort addressed segmentsOf digitsTo nodes levelWords levelsWords queueWordsTo blockWordsTo indexWords searchTo slotsWalk nodeAt nodeWalk queueAt queueWalkTo blockAt blockWalkTo walk step run walkOf built listing queried inTurn queriedMany scanned hostCell hostWords hostMeet parts withoutEmptyLast valueFrom numbersIn lineOf decimalTo tabbed read fromLine program
 examples = every table tt

@@ -2,6 +2,7 @@
 pub mod Limits
 pub mod Descriptor
 pub mod Meeting
+pub mod Windows
 pub mod Answers
 pub mod Words
 pub mod Walk

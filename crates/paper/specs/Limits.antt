@@ -20,3 +20,7 @@ strideFits s = within (negℤ (pos 1048576)) (pos 1048576) s
 -- coordinates and window edges
 abbrev pub coordinateFits : ℤ → Bool
 coordinateFits z = within (negℤ (pos 536870912)) (pos 536870912) z
+
+-- windows in one call (request E5)
+abbrev pub mostWindows : ℕ
+mostWindows = 64

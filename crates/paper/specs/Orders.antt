@@ -1,15 +1,16 @@
 -- Document 01, "Answer numbers": answers 9 and 10, and the orders. An order is a list, and stands here only.
 use mathlib.Core.Bool.{Bool, true, false, not, _||_}
-use mathlib.Core.List.{List, [], _∷_}
+use mathlib.Core.List.{List, [], _∷_, map}
 use Prim.Native.Nat.{ℕ}
 use lib.Dec.{ltb}
 use lib.IntN.{ℤ, pos, _+ℤ_}
 use lib.Signed.{ltZ}
 use lib.ListN.{length}
-use Rattle.lists.specs.Plain.{same}
+use Rattle.lists.specs.Plain.{same, sum}
 use Rattle.paper.specs.Limits.{extentFits, lowerFits}
 use Rattle.paper.specs.Descriptor.{sizeOf, segmentsOf}
-use Rattle.paper.specs.Answers.{Answer, answer, positionsOf, badKind, badLower, badExtent, badStrides, badCells, badCoordinate, badSlant, badBuffer, badRoom, badWindow, badPlace}
+use Rattle.paper.specs.Answers.{Answer, answer, answerAt, positionsOf, badKind, badLower, badExtent, badStrides, badCells, badCoordinate, badSlant, badBuffer, badRoom, badWindow, badWindows, badPlace, badSlice}
+use Rattle.paper.specs.Windows.{windowsOf, windowsWhere}
 use Rattle.paper.specs.Words.{W}
 use Rattle.paper.specs.Walk.{word, extentIn, sizeIn, Walked, walked, stopped, walkOf}
 use Rattle.paper.specs.declared.Descriptor.{Descriptor}
@@ -37,6 +38,14 @@ badWalk r = answer 10 (isStopped r)
 abbrev pub dueBy : Walked → ℕ
 dueBy (walked ps v) = length ps
 dueBy stopped = 0
+
+-- 10 of many windows (request E5): the first whose walk is spoiled returned as position
+abbrev pub badWalks : List ℤ → List ℤ → Answer
+badWalks ws edges = answerAt 10 (windowsWhere (λ w. isStopped (walkOf ws w)) edges)
+
+-- how many numbers the walks of many windows make due together
+abbrev pub dueToAll : List ℤ → List Window → ℕ
+dueToAll ws windows = sum (map (λ w. dueBy (walkOf ws w)) windows)
 
 -- ---- the orders. Request E1: 12 stands directly after 4. Request E2: in scan and query 7 comes last
 
@@ -70,6 +79,16 @@ scanOrder meets table d w numbers =
 abbrev pub queryOrder : List ℤ → Window → List ℤ → List Answer
 queryOrder ws w numbers =
     badIndex ws ∷ badWindow w ∷ badWalk (walkOf ws w) ∷ badRoom (dueBy (walkOf ws w)) (length numbers) ∷ []
+
+-- many windows (request E5): 9, 14, 8, 10, 7
+abbrev pub manyOrder : List ℤ → (edges counts numbers : List ℤ) → List Answer
+manyOrder ws edges counts numbers =
+    badIndex ws
+    ∷ badSlice edges (length counts)
+    ∷ badWindows edges
+    ∷ badWalks ws edges
+    ∷ badRoom (dueToAll ws (windowsOf edges)) (length numbers)
+    ∷ []
 
 -- C hosts. The cell of a position and coordinate: 3, 4, 12, 11
 abbrev pub cellOrder : ℤ → Descriptor → ℤ → ℤ → List Answer

@@ -12,7 +12,7 @@ use Rattle.lists.specs.Plain.{same}
 use Rattle.lists.specs.Tests.{fst-of, snd-of}
 use Rattle.lists.specs.Orders.{same-equal}
 use Rattle.paper.specs.Words.{W}
-use Rattle.paper.specs.Results.{Result, built, queried, scanned}
+use Rattle.paper.specs.Results.{Result, ManyResult, built, queried, queriedMany, scanned}
 use Rattle.paper.specs.Hosts.{hostCell, hostWords, hostMeet}
 use Rattle.paper.specs.Lines.{minus, parts, valueFrom, program, bytes}
 use Rattle.paper.specs.Corners.{weighed}
@@ -28,6 +28,8 @@ pub data Row : Type 0 where
   query : List ℤ → Window → List ℤ → Result → Row
   -- a query of the index that a builder's call wrote
   ask : List ℤ → Descriptor → List ℤ → Window → List ℤ → Result → Row
+  -- a query of many windows: index, edges, count cells, number cells, and its result
+  many : List ℤ → (edges counts numbers : List ℤ) → ManyResult → Row
   -- a scan's call, by the corner test, and its result
   scan : List ℤ → Descriptor → Window → List ℤ → Result → Row
   -- W(n)
@@ -45,6 +47,7 @@ abbrev pub Says : Row → Type 0
 Says (build table d index r) = built table d index ≡ r
 Says (query ws w numbers r) = queried ws w numbers ≡ r
 Says (ask table d index w numbers r) = queried (built table d index .1) w numbers ≡ r
+Says (many ws edges counts numbers r) = queriedMany ws edges counts numbers ≡ r
 Says (scan table d w numbers r) = scanned (weighed w) table d w numbers ≡ r
 Says (words n k) = W n ≡ k
 Says (cell len base n segment coordinate i j r) = hostCell len base n segment coordinate i j ≡ r
@@ -72,10 +75,14 @@ sameReply r s = same (r .number) (s .number) && (same (r .count) (s .count) && (
 abbrev pub sameResult : Result → Result → Bool
 sameResult r s = sameReply (r .0) (s .0) && sameList (r .1) (s .1)
 
+abbrev pub sameMany : ManyResult → ManyResult → Bool
+sameMany r s = sameReply (r .0) (s .0) && (sameList (r .1) (s .1) && sameList (r .2) (s .2))
+
 abbrev pub holds : Row → Bool
 holds (build table d index r) = sameResult (built table d index) r
 holds (query ws w numbers r) = sameResult (queried ws w numbers) r
 holds (ask table d index w numbers r) = sameResult (queried (built table d index .1) w numbers) r
+holds (many ws edges counts numbers r) = sameMany (queriedMany ws edges counts numbers) r
 holds (scan table d w numbers r) = sameResult (scanned (weighed w) table d w numbers) r
 holds (words n k) = eqb (W n) k
 holds (cell len base n segment coordinate i j r) = same (hostCell len base n segment coordinate i j) r
@@ -116,10 +123,17 @@ result-eq r s t =
     let b = both (sameReply (r .0) (s .0)) (sameList (r .1) (s .1)) t in
     λ i. (reply-eq (r .0) (s .0) (b .0) i, list-eq (r .1) (s .1) (b .1) i)
 
+many-eq : (r s : ManyResult) → T (sameMany r s) → r ≡ s
+many-eq r s t =
+    let b = both (sameReply (r .0) (s .0)) _ t in
+    let c = both (sameList (r .1) (s .1)) (sameList (r .2) (s .2)) (b .1) in
+    λ i. (reply-eq (r .0) (s .0) (b .0) i, list-eq (r .1) (s .1) (c .0) i, list-eq (r .2) (s .2) (c .1) i)
+
 pub row-says : (r : Row) → T (holds r) → Says r
 row-says (build table d index r) t = result-eq (built table d index) r t
 row-says (query ws w numbers r) t = result-eq (queried ws w numbers) r t
 row-says (ask table d index w numbers r) t = result-eq (queried (built table d index .1) w numbers) r t
+row-says (many ws edges counts numbers r) t = many-eq (queriedMany ws edges counts numbers) r t
 row-says (scan table d w numbers r) t = result-eq (scanned (weighed w) table d w numbers) r t
 row-says (words n k) t = eqb→eq (W n) k t
 row-says (cell len base n segment coordinate i j r) t = same-equal (hostCell len base n segment coordinate i j) r t

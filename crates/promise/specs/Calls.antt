@@ -23,7 +23,7 @@ use Rattle.paper.specs.Descriptor.{outsideCells, sizeOf, firstNumber, numberOf,
 use Rattle.paper.specs.Limits.{mostSegments, extentFits, lowerFits}
 use Rattle.paper.specs.Answers.{Answer, answerAt, answerAtCell, positionsOf, farOff, slanted, badKind, badLower, badExtent, badStrides, badCells, badBuffer, badRoom, badCoordinate, badSlant, badWindow, judged, refused, done}
 use Rattle.paper.specs.Words.{W, lowFirst, horizontals, verticals, indexWords}
-use Rattle.paper.specs.Walk.{word, extentIn, sizeIn, Walked, walked, walkOf}
+use Rattle.paper.specs.Walk.{word, extentIn, sizeIn, Walked, walked, stopped, walkOf}
 use Rattle.paper.specs.Orders.{badIndex, isStopped, builderOrder, queryOrder}
 use Rattle.paper.specs.Results.{Result, over, numbersOf, built, listing, queried}
 use Rattle.paper.specs.declared.Reply.{Reply}
@@ -63,6 +63,15 @@ once-numbers first segments w ps h = record {
 -- the numbers that a call lists stand in its first cells
 pub listed-numbers : (ns cells : List ℤ) (k v : ℕ) → length ns ≡ k → listedBy (done k v, over ns cells) ≡ ns
 listed-numbers ns cells k v e = take-at ns (drop (length ns) cells) k e
+
+-- the positions that a walk which has ended lists, and its visits
+abbrev pub listedIn : Walked → List ℕ
+listedIn (walked ps v) = ps
+listedIn stopped = []
+
+abbrev pub visitsIn : Walked → ℕ
+visitsIn (walked ps v) = v
+visitsIn stopped = 0
 
 -- ---- an order's outcome
 
@@ -193,7 +202,7 @@ module _ (first : ℤ) (segments : List Segment) (ws : List ℤ) (index : IndexO
       rw (across-word first segments ws index, along-word first segments ws index, size-word first segments ws index)
       (is-true _ (subst (λ (k : ℕ). T (same (pos (length (horizontals rs) + length (verticals rs))) (pos k))) (sides-length rs) (same-self (pos (length (horizontals rs) + length (verticals rs))))))
 
-  index-sound : badIndex ws .given ≡ false
+  pub index-sound : badIndex ws .given ≡ false
   index-sound =
       all-sound (ltb (length ws) 4) (extentFits (extentIn ws)) (lowerFits (word ws 1)) (ltZ (word ws 2) (pos 0)) (ltZ (word ws 3) (pos 0)) (same (word ws 2 +ℤ word ws 3) (extentIn ws))
       (ltb (length ws) (W (sizeIn ws)))

@@ -1,23 +1,30 @@
 -- The promises, proved: what `paper`'s Demands states holds of every index, whatever its segments, crossing or not, equal or not.
 -- Demand 2 is in `once` and `groups`, demand 3 in `few`; `ends` says that the walk is never stopped. `low-ends` (LowEnds) has the first group by itself.
-use mathlib.Core.Path.{_≡_, refl, sym, ap, subst, _∙_}
+use mathlib.Core.Path.{_≡_, refl, sym, ap, ap₂, subst, _∙_}
 use mathlib.Core.Bool.{false}
-use mathlib.Core.List.{List}
+use mathlib.Core.List.{List, map}
 use Prim.Native.Nat.{ℕ, _≤_}
 use native.Mathlib.Omega.{arith}
 use lib.IntN.{ℤ, pos}
 use lib.ListN.{length, drop, length-map}
+use lib.Seq.{take-at}
 use lib.Dec.{le→leb}
+use Rattle.lists.specs.Plain.{joined}
+use Rattle.lists.specs.Positions.{sum-below}
 use Rattle.paper.specs.Descriptor.{firstNumber, numberOf, segmentsOf}
-use Rattle.paper.specs.Answers.{badWindow}
+use Rattle.paper.specs.Answers.{badSlice, badWindow, badWindows}
+use Rattle.paper.specs.Windows.{windowsOf}
+use Rattle.paper.specs.Orders.{badIndex, badWalks, dueBy}
+use Rattle.paper.specs.Walk.{Walked, walkOf}
 use Rattle.paper.specs.Words.{indexWords}
-use Rattle.paper.specs.Results.{Result, numbersOf, built, queried}
-use Rattle.paper.specs.Demands.{IndexOf, IndexDemands, ListsNumbers, mostVisits, QueryDone, QueryPromise}
+use Rattle.paper.specs.Results.{Result, ManyResult, numbersOf, built, queried, queriedMany}
+use Rattle.paper.specs.Demands.{IndexOf, IndexDemands, ListsNumbers, mostVisits, QueryDone, QueryPromise, ManyDone, ManyPromise}
 use Rattle.paper.specs.declared.Descriptor.{Descriptor}
 use Rattle.paper.specs.declared.Segment.{Segment}
 use Rattle.paper.specs.declared.Window.{Window}
-use Rattle.promise.specs.Index.{index-walks, groups-once}
-use Rattle.promise.specs.Calls.{once-numbers, listed-numbers, build-accepts, build-done, query-done, query-short}
+use Rattle.promise.specs.Index.{Walks, first-word, index-walks, groups-once}
+use Rattle.promise.specs.Many.{dueTo, due-length, all-due, many-done, many-short, walks-end}
+use Rattle.promise.specs.Calls.{listedIn, visitsIn, index-sound, once-numbers, listed-numbers, build-accepts, build-done, query-done, query-short}
 
 -- demands 2 and 3 on the words of an index
 pub index-demands : IndexDemands
@@ -57,6 +64,48 @@ query-promise first segments w ws numbers index good =
           let e = query-short first segments ws index w numbers good (r .listed) (r .visits) (r .ends) (omega (arith, size, h)) in
           (ap (λ (x : Result). x .0 .number) e, ap (λ (x : Result). x .0 .count) e ∙ ap (λ (k : ℕ). pos k) (sym size));
     }
+
+-- the same of many windows in one call (request E5), each as if it were asked alone
+pub many-promise : (first : ℤ) (segments : List Segment) (ws edges counts numbers : List ℤ)
+    → IndexOf first segments ws → badSlice edges (length counts) .given ≡ false → badWindows edges .given ≡ false
+    → ManyPromise first segments (windowsOf edges) (length numbers) (queriedMany ws edges counts numbers)
+many-promise first segments ws edges counts numbers index slice good = record {
+  due = dueTo ws;
+  dueOnce = λ w g.
+      subst (ListsNumbers first segments w) (sym (due-are w))
+      (once-numbers first segments w (walks w .listed) (groups-once segments w (index .accepted) g (walks w .listed) (walks w .groups)));
+  dueFew = λ w g. omega (arith, ap length (due-are w), length-map (walks w .listed) (numberOf first), walks w .within);
+  fits = λ h. subst (ManyDone segments asked (dueTo ws)) (sym (many-done ws sound edges counts numbers slice good spoilt (omega (arith, all-due ws asked, h)))) (record {
+    isDone = refl;
+    total = ap (λ (k : ℕ). pos k) (sym (all-due ws asked));
+    counts = take-at (map (λ w. pos (dueBy (walkOf ws w))) asked) _ (length asked) (length-map asked (λ w. pos (dueBy (walkOf ws w))))
+        ∙ ap (λ (f : Window → ℕ). map (λ w. pos (f w)) asked) (λ i w. sym (due-length ws w) i);
+    numbers = take-at (joined (map (dueTo ws) asked)) _ (length (joined (map (dueTo ws) asked))) refl;
+    few = record { le = le→leb _ _ (sum-below (λ w. visitsIn (walkOf ws w)) (λ w. mostVisits (length segments) (length (dueTo ws w))) asked few) };
+  });
+  short = λ h.
+      let e = many-short ws sound edges counts numbers slice good spoilt (omega (arith, all-due ws asked, h)) in
+      (ap (λ (x : ManyResult). x .0 .number) e, ap (λ (x : ManyResult). x .0 .count) e ∙ ap (λ (k : ℕ). pos k) (sym (all-due ws asked)));
+}
+  where
+    asked : List Window
+    asked = windowsOf edges
+
+    sound : badIndex ws .given ≡ false
+    sound = index-sound first segments ws index
+
+    spoilt : badWalks ws edges .given ≡ false
+    spoilt = walks-end first segments ws edges index
+
+    walks : (w : Window) → Walks segments w (walkOf ws w)
+    walks w = index-walks first segments w ws index
+
+    due-are : (w : Window) → dueTo ws w ≡ numbersOf first (walks w .listed)
+    due-are w = ap₂ (λ (z : ℤ) (o : Walked). numbersOf z (listedIn o)) (first-word first segments ws index) (walks w .ends)
+
+    few : (w : Window) → visitsIn (walkOf ws w) ≤ mostVisits (length segments) (length (dueTo ws w))
+    few w =
+        rw (ap length (due-are w) ∙ length-map (walks w .listed) (numberOf first), ap visitsIn (walks w .ends)) (walks w .few)
 
 -- a builder that is done has written an index of the table, in whatever buffer
 pub build-promise : (table : List ℤ) (d : Descriptor) (index : List ℤ) → built table d index .0 .number ≡ pos 0

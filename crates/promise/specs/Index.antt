@@ -15,7 +15,7 @@ use Rattle.lists.specs.Tests.{gate, gate-yes, gate-zero, gate-closed, by-test, 
 use Rattle.lists.specs.Orders.{ltZ-up}
 use Rattle.lists.specs.Counting.{count-nil, count-append, count-parts, filter-count, filter-length}
 use Rattle.lists.specs.Positions.{positions-length}
-use Rattle.lists.specs.Choosing.{count-chosen}
+use Rattle.lists.specs.Choosing.{count-chosen, none-chosen}
 use Rattle.paper.specs.Descriptor.{at}
 use Rattle.paper.specs.Meeting.{Meets}
 use Rattle.paper.specs.Answers.{positionsOf, answerAt, slanted, badSlant, badWindow}
@@ -43,7 +43,7 @@ past-end [] p h = tt
 past-end (s ∷ segments) zero h = absurd (omega arith)
 past-end (s ∷ segments) (suc p) h = past-end segments p (omega arith)
 
-none-given : (number : ℕ) (ps : List ℕ) → answerAt number ps .given ≡ false → ps ≡ []
+pub none-given : (number : ℕ) (ps : List ℕ) → answerAt number ps .given ≡ false → ps ≡ []
 none-given number [] e = refl
 none-given number (p ∷ ps) e = absurd (subst T e tt)
 
@@ -52,10 +52,7 @@ not-slanted segments e p =
     let n = length segments in
     let q : ℕ → Bool = λ x. slanted (at segments x) in
     by-test (ltb p n)
-    (λ t.
-    let none : count (eqb p) (positionsOf slanted segments) ≡ 0 = ap (λ (ps : List ℕ). count (eqb p) ps) (none-given 6 (positionsOf slanted segments) e) ∙ count-nil (eqb p) in
-    let one : gate (q p) (gate (ltb p n) 1) ≡ gate (q p) 1 = ap (gate (q p)) (gate-yes (ltb p n) 1 (holds t)) in
-    gate-closed (q p) (sym one ∙ sym (count-chosen q n p) ∙ none))
+    (λ t. subst (λ b. T (not b)) (sym (none-chosen q n p (none-given 6 (positionsOf slanted segments) e) (ltb→lt p n (holds t)))) tt)
     (λ t. past-end segments p (nltb→le p n (fails t)))
 
 pub rises : (segments : List Segment) → Straight segments → (p : ℕ) → Rises (at (map lowFirst segments) p)

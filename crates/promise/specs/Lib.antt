@@ -13,4 +13,5 @@ pub mod Groups
 pub mod Whole
 pub mod Index
 pub mod Calls
+pub mod Many
 pub mod Instance

@@ -17,7 +17,7 @@ use Rattle.lists.specs.Plain.{toNat, positions, same, filter, count}
 use Rattle.lists.specs.Tests.{by-test, clash, is-true, holds, gate, gate-yes}
 use Rattle.lists.specs.Orders.{ltZ-not, same-equal, same-self, le-self, ℤ-order}
 use Rattle.lists.specs.Positions.{positions-length}
-use Rattle.lists.specs.Choosing.{at-map, count-chosen}
+use Rattle.lists.specs.Choosing.{at-map, none-chosen}
 use Rattle.paper.specs.Limits.{mostSegments}
 use Rattle.paper.specs.Descriptor.{cellOf, sizeOf, segmentOf, segmentsOf, at}
 use Rattle.paper.specs.Answers.{answerAt, positionsOf, slanted}
@@ -175,21 +175,6 @@ place-high (pos n) f h = (tt, refl, f .sfits)
 place-high (negsuc n) f h = clash h
 
 -- ---- a table that may be read
-none-chosen : (q : ℕ → Bool) (n i : ℕ) → filter q (positions n) ≡ [] → i < n → q i ≡ false
-unfolding count
-none-chosen q n i e h =
-    by-test (q i)
-    (λ t.
-    absurd
-    (omega (
-      arith,
-      count-chosen q n i,
-      ap (count (eqb i)) e,
-      gate-yes (q i) (gate (ltb i n) 1) (holds t),
-      gate-yes (ltb i n) 1 (lt→ltb i n h),
-    )))
-    (λ f. f)
-
 no-answer : (number : ℕ) (ps : List ℕ) → answerAt number ps .given ≡ false → ps ≡ []
 no-answer number [] h = refl
 no-answer number (p ∷ ps) h = clash h

@@ -18,9 +18,10 @@ use Rattle.paper.specs.declared.Segment.{Segment}
 use Rattle.promise.specs.Calls.{not-judged, none-refused, number-at-cell, table-numbered}
 use Rattle.table.specs.Cells.{Held, foundAt, outsideAt}
 
--- the answers that carry a place: 5 and 6, the position sought, 12, that of the cell, and 13, the byte of a text
+-- the answers that carry a place: 5 and 6, the position sought, 8 and 10, the window of many (0 where there is one), 12, the position of the cell, and 13,
+-- the byte of a text
 abbrev pub carriesPlace : ℕ → Bool
-carriesPlace number = eqb number 5 || eqb number 6 || eqb number 12 || eqb number 13
+carriesPlace number = eqb number 5 || eqb number 6 || eqb number 8 || eqb number 10 || eqb number 12 || eqb number 13
 
 -- the answers that carry a count: 7, the numbers due, and 12, the coordinate of the cell
 abbrev pub carriesCount : ℕ → Bool

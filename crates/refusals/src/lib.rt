@@ -64,6 +64,8 @@ fn carries_place(number: usize) -> bool
     match number {
         5 => true,
         6 => true,
+        8 => true,
+        10 => true,
         12 => true,
         13 => true,
         _ => false,

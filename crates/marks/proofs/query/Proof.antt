@@ -47,36 +47,16 @@ returns-2 c =
     with-promise ws (b .args .window) ns (ap (λ (r : Reply). (r, ns)) (c .refusal2 .ensures)
     ∙ window-refused ws (b .args .window) ns (sound (c .before .before .before)) (sym (c .before .before .bad-window .ensures) ∙ c .before .if2 .taken))
 
-whole-at-requires : tie.Need-whole-at-requires
-whole-at-requires c κs = omega (arith, sound-index (now (c .before .before .before .before .args .words)) (sound (c .before .before)) .four)
-
-slice-aggregate-answer : tie.Need-slice-aggregate-answer
-slice-aggregate-answer c = search needs
-
 answer-requires : tie.Need-answer-requires
-answer-requires c κs = (sound (c .before .before .before .before .before .before), good (c .before .before .before .before))
+answer-requires c κs = (sound (c .before .before .before), good (c .before))
 
 same-length : tie.Need-same-length
 same-length c = search needs
 
 returns-3 : tie.Need-returns-3
 returns-3 c =
-    let b = c .before .before .before .before .before .before .before .before .before .before .before in
-    with-promise (now (b .args .words)) (b .args .window) (now (b .args .numbers)) (c .before .before .answer .ensures)
-
-slice-aggregate-answer-2 : tie.Need-slice-aggregate-answer-2
-slice-aggregate-answer-2 c = search needs
-
-answer-requires-2 : tie.Need-answer-requires-2
-answer-requires-2 c κs = (sound (c .before .before .before .before .before .before), good (c .before .before .before .before))
-
-same-length-2 : tie.Need-same-length-2
-same-length-2 c = search needs
-
-returns-4 : tie.Need-returns-4
-returns-4 c =
-    let b = c .before .before .before .before .before .before .before .before .before .before .before in
-    with-promise (now (b .args .words)) (b .args .window) (now (b .args .numbers)) (c .before .before .answer2 .ensures)
+    let b = c .before .before .before .before .before .before .before in
+    with-promise (now (b .args .words)) (b .args .window) (now (b .args .numbers)) (c .before .answer .ensures)
 
 pub query-spec : {M : Type 1} → statement M
 query-spec =
@@ -88,12 +68,6 @@ query-spec =
     bad-window-requires
     refusal-requires-2
     returns-2
-    whole-at-requires
-    slice-aggregate-answer
     answer-requires
     same-length
-    returns-3
-    slice-aggregate-answer-2
-    answer-requires-2
-    same-length-2
-    returns-4)
+    returns-3)

@@ -16,8 +16,22 @@ returns-4 : tie.Need-returns-4
 returns-4 c = rw (c .match .keys4)
 
 returns-5 : tie.Need-returns-5
-returns-5 c =
-    simp (ne-eqb _ _ (c .match .rest .0 .0 .0 .1), ne-eqb _ _ (c .match .rest .0 .0 .1), ne-eqb _ _ (c .match .rest .0 .1), ne-eqb _ _ (c .match .rest .1))
+returns-5 c = rw (c .match .keys5)
+
+returns-6 : tie.Need-returns-6
+returns-6 c = rw (c .match .keys6)
+
+returns-7 : tie.Need-returns-7
+returns-7 c =
+    let others = c .match .rest in
+    simp (
+      ne-eqb _ _ (others .0 .0 .0 .0 .0 .1),
+      ne-eqb _ _ (others .0 .0 .0 .0 .1),
+      ne-eqb _ _ (others .0 .0 .0 .1),
+      ne-eqb _ _ (others .0 .0 .1),
+      ne-eqb _ _ (others .0 .1),
+      ne-eqb _ _ (others .1),
+    )
 
 pub carries-place-spec : {M : Type 1} → statement M
-carries-place-spec = tie.close (tie.spec returns returns-2 returns-3 returns-4 returns-5)
+carries-place-spec = tie.close (tie.spec returns returns-2 returns-3 returns-4 returns-5 returns-6 returns-7)

@@ -1,106 +1,68 @@
 -- `listing::answer` meets its contract. Assumes nothing.
-use mathlib.Core.Path.{_∙_, ap}
-use mathlib.Core.List.{List}
-use Prim.Native.Nat.{_≤_}
 use native.Mathlib.Omega.{arith}
-use lib.IntN.{ℤ}
 use denote.Ref.{now}
-use Rattle.paper.specs.Walk.{word, sizeIn, walkOf}
-use Rattle.paper.specs.declared.Reply.{Reply}
 use Rattle.walk.specs.Header.{sound-index}
-use Rattle.marks.specs.Querying.{walk-refused, room-refused, walk-done, spoilt, Ended, ended, due-in}
 use borrow.Author.Needs.{needs}
 use Rattle.marks.proofs.listing.answer.Statement.{statement}
 use Rattle.marks.proofs.listing.answer.Tie as tie
 
--- the walk, where it was not spoiled; the room that it was walked into is what stands there first
-after-walk : (c : tie.Else1) → (room : List ℤ)
-    × Ended (sizeIn (now (c .before .before .before .before .before .args .words))) (word (now (c .before .before .before .before .before .args .words)) 1) room (walkOf (now (c .before .before .before .before .before .args .words)) (c .before .before .before .before .before .args .window)) (c .before .before .before .walk .result) (c .before .before .before .walk .last .1 .1 .0)
-after-walk c =
-    let b = c .before .before .before .before .before in
-    let o = c .before .before .before .walk in
-    (_, ended (sizeIn (now (b .args .words))) (word (now (b .args .words)) 1) _ (walkOf (now (b .args .words)) (b .args .window)) (o .result) (o .last .1 .1 .0) (o .ensures .0) (c .if1 .left))
+whole-at-requires : tie.Need-whole-at-requires
+whole-at-requires c κs = omega (arith, sound-index (now (c .args .words)) (c .pre .0) .four)
 
-few : (c : tie.Else1) → c .before .before .before .walk .result .listed ≤ 4096
-few c = omega (arith, after-walk c .1 .few, sound-index (now (c .before .before .before .before .before .args .words)) (c .before .before .before .before .before .pre .0) .most)
+lesser-requires : tie.Need-lesser-requires
+lesser-requires c κs = search needs
 
-walk-requires : tie.Need-walk-requires
-walk-requires c κs = search needs
+slice-aggregate-answer-in : tie.Need-slice-aggregate-answer-in
+slice-aggregate-answer-in c = search needs
 
-refusal-requires : tie.Need-refusal-requires
-refusal-requires c κs = search needs
+answer-in-requires : tie.Need-answer-in-requires
+answer-in-requires c κs = search needs
 
 same-length : tie.Need-same-length
 same-length c = search needs
 
 returns : tie.Need-returns
-returns c =
-    let b = c .before .before .before .before .before .before in
-    let ws = now (b .args .words) in
-    let ns = now (b .args .numbers) in
-    let o = c .before .before .before .before .walk in
-    ap (λ (r : Reply). (r, ns)) (c .refusal .ensures)
-    ∙ walk-refused ws (b .args .window) ns (b .pre .0) (b .pre .1) (spoilt (sizeIn ws) (word ws 1) _ (walkOf ws (b .args .window)) (o .result) (o .last .1 .1 .0) (o .ensures .0) (c .before .if1 .taken))
+returns c = search needs
 
-refusal-requires-2 : tie.Need-refusal-requires-2
-refusal-requires-2 c κs = (omega arith, omega (arith, few (c .before)), omega arith)
+slice-aggregate-answer-in-2 : tie.Need-slice-aggregate-answer-in-2
+slice-aggregate-answer-in-2 c = search needs
+
+answer-in-requires-2 : tie.Need-answer-in-requires-2
+answer-in-requires-2 c κs = search needs
 
 same-length-2 : tie.Need-same-length-2
 same-length-2 c = search needs
 
 returns-2 : tie.Need-returns-2
-returns-2 c =
-    let b = c .before .before .before .before .before .before .before in
-    let ws = now (b .args .words) in
-    let ns = now (b .args .numbers) in
-    let o = c .before .before .before .before .before .walk in
-    let e = after-walk (c .before .before) in
-    ap (λ (r : Reply). (r, ns)) (c .refusal2 .ensures)
-    ∙ room-refused ws (b .args .window) ns (b .pre .0) (b .pre .1) (e .0) (o .result) (o .last .1 .1 .0) (e .1) (c .before .if2 .taken)
+returns-2 c = search needs
 
-write-requires : tie.Need-write-requires
-write-requires c κs =
-    let b = c .before .before .before .before .before .before .before .before in
-    let o = c .before .before .before .before .before .before .walk in
-    let e = after-walk (c .before .before .before) in
-    (due-in (now (b .args .words)) (b .args .window) (now (b .args .numbers)) (b .pre .0) (b .pre .1) (e .0) (o .result) (o .last .1 .1 .0) (e .1), c .before .before .if2 .left)
+slice-aggregate-answer-in-3 : tie.Need-slice-aggregate-answer-in-3
+slice-aggregate-answer-in-3 c = search needs
 
-done-requires : tie.Need-done-requires
-done-requires c κs =
-    let b = c .before .before .before .before .before .before .before .before .before .before in
-    let s = sound-index (now (b .args .words)) (b .pre .0) .most in
-    (omega (arith, few (c .before .before .before .before .before)), omega (arith, s, c .before .before .before .before .before .before .before .before .walk .ensures .1))
+answer-in-requires-3 : tie.Need-answer-in-requires-3
+answer-in-requires-3 c κs = search needs
 
 same-length-3 : tie.Need-same-length-3
 same-length-3 c = search needs
 
-same-length-4 : tie.Need-same-length-4
-same-length-4 c = search needs
-
 returns-3 : tie.Need-returns-3
-returns-3 c =
-    let b = c .before .before .before .before .before .before .before .before .before .before .before in
-    let ws = now (b .args .words) in
-    let ns = now (b .args .numbers) in
-    let o = c .before .before .before .before .before .before .before .before .before .walk in
-    let e = after-walk (c .before .before .before .before .before .before) in
-    let n = c .before .before .write in
-    ap (λ (r : Reply). (r, n .last .1 .1 .1 .0)) (c .done .ensures)
-    ∙ walk-done ws (b .args .window) ns (b .pre .0) (b .pre .1) (e .0) (o .result) (o .last .1 .1 .0) (e .1) (n .last .1 .1 .1 .0) (c .before .before .before .before .before .if2 .left) (n .ensures)
+returns-3 c = search needs
 
 pub answer-spec : {M : Type 1} → statement M
 answer-spec =
     tie.close
     (tie.spec
-    walk-requires
-    refusal-requires
+    whole-at-requires
+    lesser-requires
+    slice-aggregate-answer-in
+    answer-in-requires
     same-length
     returns
-    refusal-requires-2
+    slice-aggregate-answer-in-2
+    answer-in-requires-2
     same-length-2
     returns-2
-    write-requires
-    done-requires
+    slice-aggregate-answer-in-3
+    answer-in-requires-3
     same-length-3
-    same-length-4
     returns-3)

@@ -1,4 +1,4 @@
--- `listing::copy` meets its contract. Assumes nothing.
+-- `rooms::copy` meets its contract. Assumes nothing.
 use mathlib.Core.Path.{_≡_, refl, sym, ap, _∙_}
 use mathlib.Core.List.{List, _∷_, [], _++_}
 use Prim.Native.Nat.{ℕ, _≤_, _<_, _+_, _-_}
@@ -11,8 +11,8 @@ use mir.Syntax.{w32}
 use mir.ValLaws.{toZ-ofZ}
 use borrow.Author.Needs.{needs}
 use Rattle.lists.specs.Filling.{filled, filled-none, filled-more, filled-length}
-use Rattle.marks.proofs.listing.copy.Statement.{statement}
-use Rattle.marks.proofs.listing.copy.Tie as tie
+use Rattle.rooms.proofs.copy.Statement.{statement}
+use Rattle.rooms.proofs.copy.Tie as tie
 
 -- the first i cells are copied
 abbrev Copied : List ℤ → List ℤ → ℕ → List ℤ → Type 0
