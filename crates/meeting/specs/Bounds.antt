@@ -85,19 +85,23 @@ pub record SmallPoints (points : List (List ℤ)) : Type 0 where
   pub x : (k : ℕ) → Small (getD (getD points k []) 0 (pos 0))
   pub y : (k : ℕ) → Small (getD (getD points k []) 1 (pos 0))
 
-pub small-corners : {a b c d : ℤ} → Small a → Small b → Small c → Small d → SmallPoints (corners a b c d)
-small-corners {a} {b} {c} {d} sa sb sc sd = record { x = atx; y = aty }
+-- any four points: which of them are the corners is for the contract to say
+abbrev pub four : (x0 y0 x1 y1 x2 y2 x3 y3 : ℤ) → List (List ℤ)
+four x0 y0 x1 y1 x2 y2 x3 y3 = (x0 ∷ y0 ∷ []) ∷ (x1 ∷ y1 ∷ []) ∷ (x2 ∷ y2 ∷ []) ∷ (x3 ∷ y3 ∷ []) ∷ []
+
+pub small-points : {x0 y0 x1 y1 x2 y2 x3 y3 : ℤ} → Small x0 × Small y0 × Small x1 × Small y1 × Small x2 × Small y2 × Small x3 × Small y3 → SmallPoints (four x0 y0 x1 y1 x2 y2 x3 y3)
+small-points {x0} {y0} {x1} {y1} {x2} {y2} {x3} {y3} (p0, q0, p1, q1, p2, q2, p3, q3) = record { x = atx; y = aty }
   where
-    atx : (k : ℕ) → Small (getD (getD (corners a b c d) k []) 0 (pos 0))
-    atx zero = sa
-    atx (suc zero) = sb
-    atx (suc (suc zero)) = sa
-    atx (suc (suc (suc zero))) = sb
+    atx : (k : ℕ) → Small (getD (getD (four x0 y0 x1 y1 x2 y2 x3 y3) k []) 0 (pos 0))
+    atx zero = p0
+    atx (suc zero) = p1
+    atx (suc (suc zero)) = p2
+    atx (suc (suc (suc zero))) = p3
     atx (suc (suc (suc (suc k)))) = record { fits = refl }
 
-    aty : (k : ℕ) → Small (getD (getD (corners a b c d) k []) 1 (pos 0))
-    aty zero = sc
-    aty (suc zero) = sc
-    aty (suc (suc zero)) = sd
-    aty (suc (suc (suc zero))) = sd
+    aty : (k : ℕ) → Small (getD (getD (four x0 y0 x1 y1 x2 y2 x3 y3) k []) 1 (pos 0))
+    aty zero = q0
+    aty (suc zero) = q1
+    aty (suc (suc zero)) = q2
+    aty (suc (suc (suc zero))) = q3
     aty (suc (suc (suc (suc k)))) = record { fits = refl }

@@ -42,7 +42,10 @@ weight-requires : tie.Need-weight-requires Inv-loop μ-loop
 weight-requires c κs =
     let p = c .before .before .before .before .before .pre in
     let k = c .before .before .before .before .loop .k in
-    (p .0, small-back (p .1 .x k), small-back (p .1 .y k))
+    let n = p .0 in
+    let x = small-back (p .1 .x k) in
+    let y = small-back (p .1 .y k) in
+    search (n, x, y)
 
 add-k : tie.Need-add-k Inv-loop μ-loop
 add-k c = search needs

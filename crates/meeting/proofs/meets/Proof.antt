@@ -1,7 +1,7 @@
 -- `meeting::meets` meets its contract. Assumes nothing.
 use mathlib.Core.Path.{sym, _∙_}
 use borrow.Author.Tests.{not-true, not-false}
-use Rattle.meeting.specs.Bounds.{small-back, near, framed, small-corners}
+use Rattle.meeting.specs.Bounds.{small-back, near, framed, small-points}
 use Rattle.meeting.specs.Sides.{met-by, not-met}
 use Rattle.meeting.proofs.meets.Statement.{statement}
 use Rattle.meeting.proofs.meets.Tie as tie
@@ -16,7 +16,11 @@ both-sides-requires : tie.Need-both-sides-requires
 both-sides-requires c κs =
     let s = c .before .before .before .before .before .before in
     let w = framed (s .args .window) (s .pre .1) in
-    (near (s .args .segment) (s .pre .0), small-corners (small-back (w .a)) (small-back (w .b)) (small-back (w .c)) (small-back (w .d)))
+    let left = small-back (w .a) in
+    let right = small-back (w .b) in
+    let low = small-back (w .c) in
+    let high = small-back (w .d) in
+    (near (s .args .segment) (s .pre .0), small-points (search (left, right, low, high)))
 
 returns-2 : tie.Need-returns-2
 returns-2 c =
