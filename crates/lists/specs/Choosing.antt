@@ -10,7 +10,7 @@ use native.Mathlib.Numerals.{add-one}
 use native.Mathlib.Nat.{not-suc-le-zero, lt-irrefl, le-of-lt, le-refl}
 use native.Mathlib.Decide.{decLt}
 use lib.Dec.{T, eqb, ltb, lt→ltb}
-use lib.ListN.{length, getD, length-append, length-map, List·getD-append}
+use lib.ListN.{length, getD, length-map, List·getD-append}
 use borrow.Author.Tests.{lt-ltb, le-ltb}
 use Rattle.lists.specs.Plain.{positions, filter, count, any, joined}
 use Rattle.lists.specs.Tests.{by-test, holds, gate, gate-yes, clash, or-assoc, or-none, or-left, or-right}

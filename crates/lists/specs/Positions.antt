@@ -95,17 +95,6 @@ unfolding sum
 sum-append [] m = omega arith
 sum-append (k ∷ l) m = omega (arith, sum-append l m)
 
--- one numbered part more
-pub summed-suc : (f : ℕ → ℕ) (m : ℕ) → sum (map f (positions (suc m))) ≡ sum (map f (positions m)) + f m
-unfolding positions sum
-summed-suc f m = ap sum (map-append f (positions m) (m ∷ [])) ∙ omega (arith, sum-append (map f (positions m)) (f m ∷ []))
-
--- numbered parts that are each at most so great
-pub summed-most : (f : ℕ → ℕ) (most : ℕ) → ((k : ℕ) → f k ≤ most) → (m : ℕ) → sum (map f (positions m)) ≤ most * m
-unfolding positions sum
-summed-most f most each zero = omega arith
-summed-most f most each (suc m) = omega (arith, summed-suc f m, summed-most f most each m, each m)
-
 -- two sums, one of which is nowhere the greater
 pub sum-below : {A : Type 0} (f g : A → ℕ) (l : List A) → ((x : A) → f x ≤ g x) → sum (map f l) ≤ sum (map g l)
 unfolding sum

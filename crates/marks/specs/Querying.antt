@@ -1,12 +1,12 @@
 -- What the public query gives along its order 9, 8, 10, 7, from what the walk gives; and that what `queried` gives keeps the promises (`with-promise`).
 use mathlib.Core.Path.{_≡_, refl, sym, ap, subst, _∙_}
 use mathlib.Core.Bool.{true, false}
-use mathlib.Core.List.{List, []}
+use mathlib.Core.List.{List}
 use Prim.Native.Nat.{ℕ, _≤_, _<_}
 use native.Mathlib.Omega.{arith}
 use borrow.Author.Tests.{lt-ltb, le-ltb}
-use lib.IntN.{ℤ, pos}
-use lib.ListN.{length, take, drop, length-map}
+use lib.IntN.{ℤ}
+use lib.ListN.{length, take, length-map}
 use Rattle.lists.specs.Tests.{clash}
 use Rattle.lists.specs.Filling.{filled, filled-all, filled-front, filled-length}
 use Rattle.paper.specs.Descriptor.{numberOf}

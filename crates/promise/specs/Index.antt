@@ -11,9 +11,9 @@ use lib.IntN.{ℤ, pos}
 use lib.Signed.{leZ, ltZ}
 use lib.Dec.{T, eqb, ltb, ltb→lt, lt→ltb, nltb→le}
 use Rattle.lists.specs.Plain.{toNat, positions, filter, joined, count}
-use Rattle.lists.specs.Tests.{gate, gate-yes, gate-zero, gate-closed, by-test, holds, fails, or-false}
+use Rattle.lists.specs.Tests.{gate, gate-yes, gate-zero, by-test, holds, fails, or-false}
 use Rattle.lists.specs.Orders.{ltZ-up}
-use Rattle.lists.specs.Counting.{count-nil, count-append, count-parts, filter-count, filter-length}
+use Rattle.lists.specs.Counting.{count-append, count-parts, filter-count, filter-length}
 use Rattle.lists.specs.Positions.{positions-length}
 use Rattle.lists.specs.Choosing.{count-chosen, none-chosen}
 use Rattle.paper.specs.Descriptor.{at}

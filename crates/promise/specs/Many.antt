@@ -1,8 +1,8 @@
 -- Many windows in one call (request E5): where no window and no walk is refused, the single queries in turn come to the walks of the windows, joined (`in-turn`).
 -- Use: `many-done` and `many-short` for a call that has gone through its order; `walks-end` for an index, on which no walk is spoiled.
-use mathlib.Core.Path.{_≡_, refl, sym, ap, ap₂, subst, _∙_}
-use mathlib.Core.Bool.{Bool, true, false}
-use mathlib.Core.List.{List, [], _∷_, _++_, map, map-map, append-assoc}
+use mathlib.Core.Path.{_≡_, refl, sym, ap, ap₂, _∙_}
+use mathlib.Core.Bool.{Bool, false}
+use mathlib.Core.List.{List, _∷_, _++_, map, map-map, append-assoc}
 use Prim.Native.Nat.{ℕ, _+_, _≤_, _<_}
 use native.Mathlib.Omega.{arith}
 use native.Mathlib.Nat.{le-refl}
@@ -10,7 +10,7 @@ use borrow.Author.Tests.{le-ltb, lt-ltb}
 use lib.IntN.{ℤ, pos}
 use lib.ListN.{length, take, drop, length-map, length-append, length-drop}
 use lib.Seq.{take-at, drop-at, drop-drop}
-use Rattle.lists.specs.Plain.{toNat, filter, joined, positions, sum}
+use Rattle.lists.specs.Plain.{toNat, joined, sum}
 use Rattle.lists.specs.Tests.{clash}
 use Rattle.lists.specs.Every.{All, all-map, all-zip}
 use Rattle.lists.specs.Positions.{positions-below, joined-length}

@@ -6,15 +6,15 @@ use mathlib.Core.List.{List, [], _∷_, map, map-map}
 use mathlib.Core.Logic.{_⊎_, inl, inr}
 use Prim.Native.Nat.{ℕ, zero, suc, _+_, _≤_, _<_}
 use native.Mathlib.Omega.{arith}
-use lib.Dec.{T, ltb, eqb, lt→ltb}
+use lib.Dec.{T}
 use lib.IntN.{ℤ, pos, negsuc, natAbs}
 use lib.ListN.{length, getD, length-map, List·getD-eq-default}
 use lib.Signed.{leZ, ltZ, nonNeg}
 use mir.Syntax.{w32}
 use mir.Val.{SFits}
 use borrow.Author.Tests.{ltb-true}
-use Rattle.lists.specs.Plain.{toNat, positions, same, filter, count}
-use Rattle.lists.specs.Tests.{by-test, clash, is-true, holds, gate, gate-yes}
+use Rattle.lists.specs.Plain.{toNat, positions, same}
+use Rattle.lists.specs.Tests.{by-test, clash, is-true, holds}
 use Rattle.lists.specs.Orders.{ltZ-not, same-equal, same-self, le-self, ℤ-order}
 use Rattle.lists.specs.Positions.{positions-length}
 use Rattle.lists.specs.Choosing.{at-map, none-chosen}

@@ -1,27 +1,25 @@
 -- What the call for many windows gives along its order 9, 14, 8, 10, 7, from what is found when the windows are asked in turn; and that what `queriedMany`
 -- gives keeps the promises (`with-promise`).
-use mathlib.Core.Path.{_≡_, refl, sym, ap, ap₂, subst, _∙_}
+use mathlib.Core.Path.{_≡_, sym, ap, subst, _∙_}
 use mathlib.Core.Bool.{Bool, true, false, not, _||_, cond}
 use mathlib.Core.List.{List, map}
-use Prim.Native.Nat.{ℕ, _*_, _≤_, _<_, _/_}
+use Prim.Native.Nat.{ℕ, _*_, _≤_, _<_}
 use native.Mathlib.Omega.{arith}
 use borrow.Author.Tests.{le-ltb, lt-ltb, ltb-false}
 use lib.Dec.{eqb, ltb}
 use lib.IntN.{ℤ, pos}
-use lib.ListN.{length, take, drop, length-map}
-use lib.Seq.{take-at}
+use lib.ListN.{length, take, length-map}
 use Rattle.lists.specs.Plain.{joined, filter, positions}
-use Rattle.lists.specs.Tests.{clash, or-false}
+use Rattle.lists.specs.Tests.{or-false}
 use Rattle.lists.specs.Choosing.{First, at-end}
 use Rattle.lists.specs.Filling.{filled, filled-all, filled-front, filled-length}
 use Rattle.paper.specs.Limits.{mostWindows}
-use Rattle.paper.specs.Answers.{Answer, answer, answerAt, badRoom, badSlice, badWindow, badWindows, refused, done}
+use Rattle.paper.specs.Answers.{Answer, answer, answerAt, badSlice, badWindow, badWindows, refused, done}
 use Rattle.paper.specs.Windows.{windowCount, windowAt, windowsOf}
 use Rattle.paper.specs.Orders.{badIndex, badWalks, isStopped, dueBy, dueToAll}
 use Rattle.paper.specs.Results.{ManyResult, over, queriedMany}
 use Rattle.paper.specs.Demands.{ManyPromise, ManyPromises}
 use Rattle.paper.specs.Walk.{walkOf}
-use Rattle.promise.specs.Calls.{visitsIn}
 use Rattle.promise.specs.Demands.{many-promise}
 use Rattle.promise.specs.Many.{dueTo, all-due, many-done, many-short}
 use Rattle.refusals.specs.Orders.{refusalAt}

@@ -1,12 +1,10 @@
 -- `marks::query` meets its contract. Assumes nothing.
 use mathlib.Core.Path.{_≡_, _∙_, sym, ap}
 use mathlib.Core.Bool.{false}
-use native.Mathlib.Omega.{arith}
 use denote.Ref.{now}
 use Rattle.paper.specs.Answers.{badWindow}
 use Rattle.paper.specs.Orders.{badIndex}
 use Rattle.paper.specs.declared.Reply.{Reply}
-use Rattle.walk.specs.Header.{sound-index}
 use Rattle.marks.specs.Querying.{with-promise, index-refused, window-refused}
 use borrow.Author.Needs.{needs}
 use Rattle.marks.proofs.query.Statement.{statement}

@@ -1,6 +1,6 @@
 -- `rooms::copy` meets its contract. Assumes nothing.
 use mathlib.Core.Path.{_≡_, refl, sym, ap, _∙_}
-use mathlib.Core.List.{List, _∷_, [], _++_}
+use mathlib.Core.List.{List}
 use Prim.Native.Nat.{ℕ, _≤_, _<_, _+_, _-_}
 use native.Mathlib.Omega.{arith}
 use lib.IntN.{ℤ, pos}
@@ -10,7 +10,7 @@ use native.Mathlib.Numerals.{add-one}
 use mir.Syntax.{w32}
 use mir.ValLaws.{toZ-ofZ}
 use borrow.Author.Needs.{needs}
-use Rattle.lists.specs.Filling.{filled, filled-none, filled-more, filled-length}
+use Rattle.lists.specs.Filling.{filled, filled-none, filled-more}
 use Rattle.rooms.proofs.copy.Statement.{statement}
 use Rattle.rooms.proofs.copy.Tie as tie
 

@@ -1,7 +1,6 @@
 -- `windows::query` meets its contract. Assumes nothing.
 use mathlib.Core.Path.{_≡_, sym, ap, _∙_}
 use mathlib.Core.Bool.{false}
-use native.Mathlib.Omega.{arith}
 use lib.ListN.{length}
 use denote.Ref.{now}
 use Rattle.paper.specs.Answers.{badSlice, badWindow, badWindows}

@@ -1,6 +1,5 @@
 -- `listing::write` meets its contract. Assumes nothing.
 use mathlib.Core.Path.{_∙_}
-use native.Mathlib.Omega.{arith}
 use denote.Ref.{now}
 use borrow.Author.Needs.{needs}
 use Rattle.marks.specs.Querying.{copied, walked-again}
