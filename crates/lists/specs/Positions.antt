@@ -94,9 +94,3 @@ pub sum-append : (l m : List ℕ) → sum (l ++ m) ≡ sum l + sum m
 unfolding sum
 sum-append [] m = omega arith
 sum-append (k ∷ l) m = omega (arith, sum-append l m)
-
--- two sums, one of which is nowhere the greater
-pub sum-below : {A : Type 0} (f g : A → ℕ) (l : List A) → ((x : A) → f x ≤ g x) → sum (map f l) ≤ sum (map g l)
-unfolding sum
-sum-below f g [] h = omega arith
-sum-below f g (x ∷ l) h = omega (arith, h x, sum-below f g l h)

@@ -141,22 +141,24 @@ QueryPromises ws w numbers r =
     → badWindow w .given ≡ false
     → QueryPromise first segments w (length numbers) r
 
--- what a query of many windows that is done promises its caller (request E5): one count for each window, the numbers due to each one after another,
--- and demand 3 for each, in the sum
-pub record ManyDone (segments : List Segment) (windows : List Window) (due : Window → List ℤ) (r : ManyResult) : Type 0 where
+-- what a query of many windows that is done gives its caller (request E5), by the numbers due to each window and the visits of each: one count for each window,
+-- the numbers one after another, the visits added up
+pub record ManyDone (windows : List Window) (due : Window → List ℤ) (visits : Window → ℕ) (r : ManyResult) : Type 0 where
   pub isDone : r .0 .number ≡ pos 0
   pub total : r .0 .count ≡ pos (length (joined (map due windows)))
+  pub allVisits : r .0 .visits ≡ pos (sum (map visits windows))
   pub counts : take (length windows) (r .1) ≡ map (λ w. pos (length (due w))) windows
   pub numbers : take (length (joined (map due windows))) (r .2) ≡ joined (map due windows)
-  pub few : r .0 .visits ≤ℤ pos (sum (map (λ w. mostVisits (length segments) (length (due w))) windows))
 
--- what it promises on words that are an index of segments, where the slice and all its windows are good: each window has its numbers due, which are those
--- that demand 2 asks for, whatever the other windows are
+-- what it promises on words that are an index of segments, where the slice and all its windows are good: demands 2 and 3 for each window, whatever the others are;
+-- where all the numbers fit in the cells lent it is done, and where they do not it says how many they are
 pub record ManyPromise (first : ℤ) (segments : List Segment) (windows : List Window) (lent : ℕ) (r : ManyResult) : Type 0 where
   pub due : Window → List ℤ
+  pub visits : Window → ℕ
   pub dueOnce : (w : Window) → badWindow w .given ≡ false → ListsNumbers first segments w (due w)
   pub dueFew : (w : Window) → badWindow w .given ≡ false → length (due w) ≤ length segments
-  pub fits : length (joined (map due windows)) ≤ lent → ManyDone segments windows due r
+  pub few : (w : Window) → badWindow w .given ≡ false → visits w ≤ mostVisits (length segments) (length (due w))
+  pub fits : length (joined (map due windows)) ≤ lent → ManyDone windows due visits r
   pub short : lent < length (joined (map due windows)) → (r .0 .number ≡ pos 7) × (r .0 .count ≡ pos (length (joined (map due windows))))
 
 abbrev pub ManyPromises : List ℤ → (edges counts numbers : List ℤ) → ManyResult → Type 0

@@ -10,7 +10,6 @@ use lib.ListN.{length, drop, length-map}
 use lib.Seq.{take-at}
 use lib.Dec.{le→leb}
 use Rattle.lists.specs.Plain.{joined}
-use Rattle.lists.specs.Positions.{sum-below}
 use Rattle.paper.specs.Descriptor.{firstNumber, numberOf, segmentsOf}
 use Rattle.paper.specs.Answers.{badSlice, badWindow, badWindows}
 use Rattle.paper.specs.Windows.{windowsOf}
@@ -71,17 +70,19 @@ pub many-promise : (first : ℤ) (segments : List Segment) (ws edges counts numb
     → ManyPromise first segments (windowsOf edges) (length numbers) (queriedMany ws edges counts numbers)
 many-promise first segments ws edges counts numbers index slice good = record {
   due = dueTo ws;
+  visits = λ w. visitsIn (walkOf ws w);
   dueOnce = λ w g.
       subst (ListsNumbers first segments w) (sym (due-are w))
       (once-numbers first segments w (walks w .listed) (groups-once segments w (index .accepted) g (walks w .listed) (walks w .groups)));
   dueFew = λ w g. omega (arith, ap length (due-are w), length-map (walks w .listed) (numberOf first), walks w .within);
-  fits = λ h. subst (ManyDone segments asked (dueTo ws)) (sym (many-done ws sound edges counts numbers slice good spoilt (omega (arith, all-due ws asked, h)))) (record {
+  few = λ w g. rw (ap length (due-are w) ∙ length-map (walks w .listed) (numberOf first), ap visitsIn (walks w .ends)) (walks w .few);
+  fits = λ h. subst (ManyDone asked (dueTo ws) (λ w. visitsIn (walkOf ws w))) (sym (many-done ws sound edges counts numbers slice good spoilt (omega (arith, all-due ws asked, h)))) (record {
     isDone = refl;
     total = ap (λ (k : ℕ). pos k) (sym (all-due ws asked));
+    allVisits = refl;
     counts = take-at (map (λ w. pos (dueBy (walkOf ws w))) asked) _ (length asked) (length-map asked (λ w. pos (dueBy (walkOf ws w))))
         ∙ ap (λ (f : Window → ℕ). map (λ w. pos (f w)) asked) (λ i w. sym (due-length ws w) i);
     numbers = take-at (joined (map (dueTo ws) asked)) _ (length (joined (map (dueTo ws) asked))) refl;
-    few = record { le = le→leb _ _ (sum-below (λ w. visitsIn (walkOf ws w)) (λ w. mostVisits (length segments) (length (dueTo ws w))) asked few) };
   });
   short = λ h.
       let e = many-short ws sound edges counts numbers slice good spoilt (omega (arith, all-due ws asked, h)) in
@@ -102,10 +103,6 @@ many-promise first segments ws edges counts numbers index slice good = record {
 
     due-are : (w : Window) → dueTo ws w ≡ numbersOf first (walks w .listed)
     due-are w = ap₂ (λ (z : ℤ) (o : Walked). numbersOf z (listedIn o)) (first-word first segments ws index) (walks w .ends)
-
-    few : (w : Window) → visitsIn (walkOf ws w) ≤ mostVisits (length segments) (length (dueTo ws w))
-    few w =
-        rw (ap length (due-are w) ∙ length-map (walks w .listed) (numberOf first), ap visitsIn (walks w .ends)) (walks w .few)
 
 -- a builder that is done has written an index of the table, in whatever buffer
 pub build-promise : (table : List ℤ) (d : Descriptor) (index : List ℤ) → built table d index .0 .number ≡ pos 0
