@@ -139,7 +139,9 @@ struct Reply {
 struct Walk {
     const int32_t *w;
     int64_t n, lower, D, a, b, c, d;
+    // where numbers are listed, and for how many there is room; the walk counts on past it
     int32_t *numbers;
+    int64_t room;
     const int32_t *levels, *last;
     int64_t count = 0, visits = 0;
 
@@ -147,7 +149,8 @@ struct Walk {
     bool good(int32_t p) const { return (uint32_t)p < (uint64_t)n; }
     bool list(int32_t p) {
         if (count >= n) return false;
-        numbers[count++] = (int32_t)(lower + p);
+        if (count < room) numbers[count] = (int32_t)(lower + p);
+        count++;
         return true;
     }
 
@@ -234,16 +237,24 @@ inline Reply query(
     if (n < 0 || n > most_segments || lower < -most_lower || lower > most_lower) return {9, 0, 0, 0};
     if (across < 0 || along < 0 || across + along != n || length < words(n)) return {9, 0, 0, 0};
     if (a > b || c > d || a < -most_coordinate || b > most_coordinate || c < -most_coordinate || d > most_coordinate) return {8, 0, 0, 0};
-    if (cells < n) return {7, 0, 0, 0};
     if (n == 0) return {0, 0, 0, 0};
-    int64_t D = depth(n), slot = 0;
+    int64_t D = depth(n);
     const int32_t *levels = w + 4 + 4 * n, *blocks = levels + D * 2 * n;
-    Walk walk{w, n, lower, D, a, b, c, d, numbers, levels, levels + (D - 1) * 2 * n};
-    bool whole = walk.search(slot) && walk.node(0, 0, n, slot) && walk.block<0>(blocks, across, a, c, d)
-        && walk.block<1>(blocks + 8 * across, along, c, a, b);
-    if (!whole) {
-        std::fill(numbers, numbers + n, 0);
-        return {10, 0, 0, 0};
+    auto walk_into = [&](int32_t *room, int64_t length) { return Walk{w, n, lower, D, a, b, c, d, room, length, levels, levels + (D - 1) * 2 * n}; };
+    auto all = [&](Walk &walk) {
+        int64_t slot = 0;
+        return walk.search(slot) && walk.node(0, 0, n, slot) && walk.block<0>(blocks, across, a, c, d) && walk.block<1>(blocks + 8 * across, along, c, a, b);
+    };
+    // no refusal changes a cell (request E2): the numbers are listed apart first, and where that has no room for all, a second time
+    int32_t own[2048];
+    Walk walk = walk_into(own, 2048);
+    if (!all(walk)) return {10, 0, 0, 0};
+    if (cells < walk.count) return {7, walk.count, 0, 0};
+    if (walk.count <= 2048) {
+        std::copy(own, own + walk.count, numbers);
+    } else {
+        Walk again = walk_into(numbers, cells);
+        all(again);
     }
     return {0, walk.count, walk.visits, 0};
 }

@@ -84,8 +84,6 @@ static void compare(const std::vector<int32_t> &words, const Window &w) {
     std::fill(others.begin(), others.end(), -5);
     auto x = doc01::query(words.data(), words.size(), w.a, w.b, w.c, w.d, cells.data(), size);
     Reply y = kalinosz_query(words.data(), words.size(), w.a, w.b, w.c, w.d, others.data(), size);
-    // document 01 had a spoiled walk set cells to 0, which the C++ one still does; since request E2 no refusal changes a cell
-    if (x.number) std::fill(cells.begin(), cells.end(), -5);
     bool same = x.number == y.number && x.count == y.count && x.visits == y.visits && x.position == y.position && cells == others;
     (same ? passed : failed)++;
 }
