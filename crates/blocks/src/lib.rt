@@ -1,5 +1,7 @@
 // The blocks of an index, walked over any words: one code for horizontals and verticals. A walk goes down a chain of blocks, which is a loop, since spoiled words can
 // make it as long as n; each block walks its low or its high queue.
+#![tactic(auto)]
+
 ghost use Rattle.std.specs.Prelude.{◌≡◌, cond, ◌+◌, ◌*◌, ◌^◌, ◌<◌, ◌≤◌, length};
 ghost use Rattle.paper.specs.declared.Window.{Window};
 ghost use Rattle.tally.specs.State.{Along};

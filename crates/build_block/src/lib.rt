@@ -1,5 +1,7 @@
 // The block builder: the words of a block, in place of the positions it is to hold, which stand by near at the front of its words.
 // One function for horizontals and verticals: `Ends` says which words of a record are near, far and level.
+#![tactic(auto)]
+
 ghost use Rattle.std.specs.Prelude.{◌≡◌, ℕ, ◌+◌, ◌-◌, ◌*◌, ◌/◌, ◌≤◌, ◌<◌, length, not};
 ghost use Rattle.std.specs.Int.Signed.{lt_z};
 ghost use Rattle.lists.specs.Plain.{filter};

@@ -1,5 +1,7 @@
 // The queue builder: the words of a queue, in place of the positions it is to hold, which stand by (level, position) at the front of its words.
 // One function for low and high queues, for horizontals and verticals: `Ends` says which words of a record are near, far and level.
+#![tactic(auto)]
+
 ghost use Rattle.std.specs.Prelude.{◌≡◌, ℕ, ◌+◌, ◌-◌, ◌*◌, ◌/◌, ◌≤◌, ◌<◌, length, take};
 ghost use Rattle.lists.specs.Plain.{to_nat};
 ghost use Rattle.paper.specs.Words.{queue_words, split_of};

@@ -1,5 +1,7 @@
 // The builder: every word of the index of a table that no answer refuses, written in place in the lent buffer.
 // `build_words` lends the parts of the buffer on: records, levels, then the blocks behind the levels that their runs are taken from.
+#![tactic(auto)]
+
 ghost use Rattle.std.specs.Prelude.{◌≡◌, cond, ◌∷◌, [], ◌++◌, ℕ, ◌+◌, ◌-◌, ◌*◌, ◌≤◌, ◌<◌, pos, length};
 ghost use Rattle.lists.specs.Plain.{filter};
 ghost use Rattle.lists.specs.Parts.{win, put};

@@ -1,5 +1,7 @@
 // A caller's proof: from a build that is done to what a query of its words promises, by the contracts of `marks` alone. Nothing here opens a
 // definition of `paper`; `check::expect` takes only what is proved to be true.
+#![tactic(auto)]
+
 use paper::{Descriptor, Window};
 
 // Document 01's three marks, its window, and the most number cells that any table asks for.

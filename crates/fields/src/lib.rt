@@ -1,5 +1,7 @@
 // A line of the program as bytes: its fields, their numbers, and the line as an enum, said in the words of `paper`'s Lines.
 // `line_of` takes any bytes; `end_of` finds the next tab or line feed.
+#![tactic(auto)]
+
 ghost use Rattle.std.specs.Prelude.{◌≡◌, true, false, not, ◌||◌, ◌&&◌, ℕ, ◌+◌, ◌-◌, ◌*◌, ◌<◌, ◌≤◌, leb, eqb, ℤ, pos, neg_ℤ, length, take, drop, get_or};
 ghost use Rattle.paper.specs.Lines.{Line as PaperLine, is_digit, is_decimal, value_from, number_in, line_of, form_of, letter_T, letter_S, letter_W};
 ghost use Rattle.fields.specs.Marks.{Ends};

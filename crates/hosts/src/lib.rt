@@ -1,5 +1,7 @@
 // What C hosts call: three answers on plain numbers, a refusal as its negative, and the scan, the builder and the queries on lent buffers.
 // Each is a few lines over the crates below; include/kalinosz.h tells C of them.
+#![tactic(auto)]
+
 ghost use Rattle.std.specs.Prelude.{◌≡◌};
 ghost use Rattle.paper.specs.Answers.{bad_place};
 ghost use Rattle.paper.specs.Hosts.{host_cell, host_words, HostMeet};

@@ -1,5 +1,7 @@
 // The program of document 01 on lent buffers: the state between lines, each line judged when read, the input cut into lines.
 // `start` is the reader before the input; `feed` takes a chunk of it, `finish` its end. What they write is `paper`'s `program` of the whole input.
+#![tactic(auto)]
+
 ghost use Rattle.std.specs.Prelude.{◌≡◌, true, false, List, [], ◌∷◌, ℕ, ◌+◌, ◌*◌, ◌≤◌, ◌<◌, ℤ, pos, length, take, drop};
 ghost use Rattle.lists.specs.Parts.{put};
 ghost use Rattle.paper.specs.Answers.{far_off};

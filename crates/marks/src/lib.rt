@@ -1,4 +1,6 @@
 // The public calls over lent buffers. No call asks anything of its input: bad input gets its answer number and leaves every cell as it was.
+#![tactic(auto)]
+
 ghost use Rattle.std.specs.Prelude.{◌≡◌, pos};
 ghost use Rattle.paper.specs.Descriptor.{first_number, segments_of};
 ghost use Rattle.paper.specs.Results.{Scanned, built, queried};

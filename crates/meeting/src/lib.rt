@@ -1,5 +1,7 @@
 // Whether a segment meets a window: the box comparison first and apart, then the window's four corners weighed against the segment's line.
 // A caller tests `bad_window` and the segment's limits (answers 8 and 5) first.
+#![tactic(auto)]
+
 ghost use Rattle.std.specs.Prelude.{◌≡◌, true, false, ◌&&◌, ◌↔◌, pos};
 ghost use Rattle.std.specs.Int.Signed.{le_z};
 ghost use Rattle.paper.specs.Corners.{overlaps, weight as Weight, weighed};

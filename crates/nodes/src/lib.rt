@@ -1,4 +1,6 @@
 // The nodes of an index, walked over any words: a loop, with the right nodes that are still to be walked on a small lent stack.
+#![tactic(auto)]
+
 ghost use Rattle.std.specs.Prelude.{◌≡◌, ◌+◌, ◌*◌, ◌^◌, ◌<◌, ◌≤◌, length};
 ghost use Rattle.paper.specs.Walk.{node_walk};
 ghost use Rattle.paper.specs.Words.{levels_at};

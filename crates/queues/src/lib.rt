@@ -1,5 +1,7 @@
 // The queues of an index, walked over any words: one code for horizontals and verticals, low and high queues.
 // A queue is a loop, with the right queues that are still to be walked on a small lent stack.
+#![tactic(auto)]
+
 ghost use Rattle.std.specs.Prelude.{◌≡◌, cond, ◌+◌, ◌*◌, ◌^◌, ◌<◌, ◌≤◌, length};
 ghost use Rattle.paper.specs.Walk.{record_at, condition, in_band};
 ghost use Rattle.paper.specs.declared.Window.{Window};

@@ -1,4 +1,6 @@
 // What the public calls share: the tests of a table that stand first in every order over one, and the replies.
+#![tactic(auto)]
+
 ghost use Rattle.std.specs.Prelude.{◌≡◌, ◌<◌, ◌≤◌, cond, eqb, pos, length};
 ghost use Rattle.paper.specs.Descriptor.{size_of, segments_of};
 ghost use Rattle.paper.specs.Answers.{judged, refused, done as Done};

@@ -1,4 +1,6 @@
 // Rooms: cells of a call's own, into which it lists before it changes a cell that was lent, so that no refusal has changed one.
+#![tactic(auto)]
+
 ghost use Rattle.std.specs.Prelude.{◌≡◌, ◌≤◌, min, length, take};
 ghost use Rattle.lists.specs.Filling.{filled};
 

@@ -1,5 +1,7 @@
 // The plain scan's listing: the numbers of the segments that meet a window, ascending, into lent cells.
 // It asks for input that no answer refuses; the public call, with the refusals, is `marks::scan`.
+#![tactic(auto)]
+
 ghost use Rattle.std.specs.Prelude.{◌≡◌, false, cond, ◌+◌, ◌<◌, ◌≤◌, length, set};
 ghost use Rattle.paper.specs.Descriptor.{first_number, number_of, size_of};
 ghost use Rattle.paper.specs.Answers.{bad_lower};

@@ -1,4 +1,6 @@
 // The slots of an index's levels, walked over any words: the search of level 0, and the slots of a node that lies inside the window's a..b.
+#![tactic(auto)]
+
 ghost use Rattle.std.specs.Prelude.{◌≡◌, ◌+◌, ◌*◌, ◌^◌, ◌<◌, ◌≤◌, length};
 ghost use Rattle.paper.specs.Walk.{slots_walk};
 ghost use Rattle.paper.specs.Words.{levels_at};

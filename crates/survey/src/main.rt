@@ -1,5 +1,7 @@
 // The program of document 01: it reads standard input in chunks, hands each on to `lines`, and writes what that prints before it reads again, so that it can
 // stand in a pipe. A reading error or a closed pipe ends it quietly with what was answered so far.
+#![tactic(auto)]
+
 ghost use Rattle.std.specs.Prelude.{◌≡◌, ◌≤◌, length};
 ghost use Rattle.lines.specs.Reading.{Buffers, Sound};
 

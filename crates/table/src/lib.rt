@@ -1,5 +1,7 @@
 // A table by its descriptor: refusals 1 to 6 and 12, the cell of a position, its coordinates and segments, and W(n), said in the words of `paper`.
 // A caller tests `bad_kind`, `bad_lower`, `bad_extent`, `bad_strides` and `bad_cells` first; what passes the last three is `Held`, and may be read.
+#![tactic(auto)]
+
 ghost use Rattle.std.specs.Prelude.{◌≡◌, true, false, not, ◌+◌, ◌*◌, ◌<◌, ◌≤◌, pos, length, get_or};
 ghost use Rattle.std.specs.Int.{w64};
 ghost use Rattle.std.proofs.Common.{SFits};

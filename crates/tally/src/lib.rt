@@ -1,5 +1,7 @@
 // What a walk over an index keeps while it goes, and how it reads words: each visit, each number listed and each word read goes through here.
 // The events of `paper` become what the code keeps by `after` (specs/State); a word is read as a whole number by `whole_at`, a record's by `coordinate_at`.
+#![tactic(auto)]
+
 ghost use Rattle.std.specs.Prelude.{◌≡◌, true, ◌+◌, ◌*◌, ◌^◌, ◌<◌, ◌≤◌, length, pos, ◌+ℤ◌};
 ghost use Rattle.std.specs.Int.Signed.{le_z};
 ghost use Rattle.paper.specs.Limits.{lower_fits};

@@ -1,5 +1,7 @@
 // The text of the program's A and R lines, written into a lent buffer: exactly the bytes of `paper`'s `printed`, `tabbed` and `decimal`.
 // Each function writes from a place on and returns the place after; the buffer's other bytes keep their values.
+#![tactic(auto)]
+
 ghost use Rattle.std.specs.Prelude.{◌≡◌, true, List, [], ◌∷◌, ℕ, ◌+◌, ◌*◌, ◌≤◌, ◌<◌, min, ℤ, pos, negsuc, length, take};
 ghost use Rattle.std.specs.Int.Signed.{lt_z};
 ghost use Rattle.lists.specs.Plain.{to_nat};

@@ -1,5 +1,7 @@
 // The walk of document 01 over an index's words, whatever they are, and answer 9, which says whether words are an index at all.
 // It lists into whatever room is lent and counts on where there is none; the window's edges may stand in any order.
+#![tactic(auto)]
+
 ghost use Rattle.std.specs.Prelude.{◌≡◌, false, ◌+◌, ◌*◌, ◌<◌, ◌≤◌, length};
 ghost use Rattle.std.specs.Int.{w32};
 ghost use Rattle.std.proofs.Common.{SFits};

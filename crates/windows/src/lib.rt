@@ -1,4 +1,6 @@
 // Many windows of one index in one call (request E5). Nothing is asked of the input: bad input gets its answer number and leaves every lent cell as it was.
+#![tactic(auto)]
+
 ghost use Rattle.std.specs.Prelude.{◌≡◌, false, ◌*◌, ◌+◌, ◌≤◌, length};
 ghost use Rattle.lists.specs.Choosing.{First};
 ghost use Rattle.paper.specs.Answers.{bad_slice, bad_window, bad_windows};

@@ -2,6 +2,8 @@
 // no accepted text begins so. A text may end with one line feed. A fault prints R, the answer number and its place, and ends: of a text the byte or the position, from 0;
 // of lines the line, from 1. An input of 198,000 bytes or more prints R, 7, 0;
 // any table in the one spelling is shorter, and so is any in lines.
+#![tactic(auto)]
+
 ghost use Rattle.std.specs.Prelude.{◌≡◌, ◌+◌, ◌*◌, ◌≤◌, ◌<◌, length};
 ghost use Rattle.wkt.specs.Bounds.{Fewer};
 

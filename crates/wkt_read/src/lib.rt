@@ -1,5 +1,7 @@
 // The two passes over a text of request E3: `judge` says whether it is accepted, or the place of the refusal, and writes nothing; `fill` puts the numbers of an
 // accepted text into cells. The automaton is in its own file.
+#![tactic(auto)]
+
 ghost use Rattle.std.specs.Prelude.{◌≡◌, true, map, ◌-◌, ◌≤◌, ◌<◌, length, pos, ◌-ℤ◌};
 ghost use Rattle.std.specs.Int.{w32, w64};
 ghost use Rattle.std.proofs.Common.{SFits};

@@ -1,5 +1,7 @@
 // Tables as well-known text (request E3), the public calls: `read` fills cells from a text, `write` spells a table. No call asks anything of its input: bad input
 // gets its answer number and leaves every cell or byte as it was.
+#![tactic(auto)]
+
 ghost use Rattle.std.specs.Prelude.{◌≡◌, pos};
 ghost use Rattle.paper.specs.Descriptor.{segments_of};
 ghost use Rattle.paper.specs.Wkt.{Read, written, ReadsBack, new_text};

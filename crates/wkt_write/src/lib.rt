@@ -1,5 +1,7 @@
 // The one spelling of a table as text (request E3), through its descriptor: how many bytes it takes, and the bytes, written into a lent buffer.
 // A caller has shown that the table's cells are there (`Held`) and that the buffer is long enough.
+#![tactic(auto)]
+
 ghost use Rattle.std.specs.Prelude.{◌≡◌, [], ◌∷◌, ◌++◌, ◌+◌, ◌*◌, ◌≤◌, ◌<◌, pos, length, drop};
 ghost use Rattle.lists.specs.Parts.{put};
 ghost use Rattle.paper.specs.Descriptor.{size_of, segments_of};
