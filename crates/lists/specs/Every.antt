@@ -34,18 +34,18 @@ module _ {A : Type 0} where
   pub all_take : {P : A → Type 0} {l : List A} (n : ℕ) → All P l → All P (take n l)
   all_take zero h = none
   all_take (suc n) none = none
-  all_take (suc n) (also p h) = also p (all_take n h)
+  all_take {P = P} (suc n) (also {x = x} {l = l} p h) = also p (all_take {l = l} n h)
 
   pub all_drop : {P : A → Type 0} {l : List A} (n : ℕ) → All P l → All P (drop n l)
   all_drop zero h = h
   all_drop (suc n) none = none
-  all_drop (suc n) (also p h) = all_drop n h
+  all_drop {P = P} (suc n) (also {x = x} {l = l} p h) = all_drop {l = l} n h
 
   pub all_get_d : {P : A → Type 0} {l : List A} (j : ℕ) (d : A) → j < length l → All P l → P (get_or l j d)
   all_get_d zero d e none = absurd (omega arith)
   all_get_d zero d e (also p h) = p
   all_get_d (suc j) d e none = absurd (omega arith)
-  all_get_d (suc j) d e (also p h) = all_get_d j d (omega arith) h
+  all_get_d {P = P} (suc j) d e (also {x = x} {l = l} p h) = all_get_d {l = l} j d (omega arith) h
 
   -- each element stands in the relation R to all that follow it
   pub data Sorted (R : A → A → Type 0) : List A → Type 0 where
@@ -55,12 +55,12 @@ module _ {A : Type 0} where
   pub sorted_take : {R : A → A → Type 0} {l : List A} (n : ℕ) → Sorted R l → Sorted R (take n l)
   sorted_take zero s = none
   sorted_take (suc n) none = none
-  sorted_take (suc n) (next h s) = next (all_take n h) (sorted_take n s)
+  sorted_take {R = R} (suc n) (next {x = x} {l = l} h s) = next (all_take n h) (sorted_take {l = l} n s)
 
   pub sorted_drop : {R : A → A → Type 0} {l : List A} (n : ℕ) → Sorted R l → Sorted R (drop n l)
   sorted_drop zero s = s
   sorted_drop (suc n) none = none
-  sorted_drop (suc n) (next h s) = sorted_drop n s
+  sorted_drop {R = R} (suc n) (next {x = x} {l = l} h s) = sorted_drop {l = l} n s
 
   -- any element and a later one
   pub sorted_get_d : {R : A → A → Type 0} {l : List A} (i j : ℕ) (d : A) → i < j → j < length l → Sorted R l → R (get_or l i d) (get_or l j d)
@@ -68,7 +68,7 @@ module _ {A : Type 0} where
   sorted_get_d zero zero d h k (next g s) = absurd (omega arith)
   sorted_get_d zero (suc j) d h k (next g s) = all_get_d j d (omega arith) g
   sorted_get_d (suc i) zero d h k (next g s) = absurd (omega arith)
-  sorted_get_d (suc i) (suc j) d h k (next g s) = sorted_get_d i j d (omega arith) (omega arith) s
+  sorted_get_d {R = R} (suc i) (suc j) d h k (next {x = x} {l = l} g s) = sorted_get_d {l = l} i j d (omega arith) (omega arith) s
 
   -- ---- what passes a test
   pub all_filter : {P : A → Type 0} (t : A → Bool) {l : List A} → All P l → All (λ x. T (t x) × P x) (filter t l)

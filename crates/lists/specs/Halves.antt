@@ -53,7 +53,7 @@ module _ {A K : Type 0} (le : K → K → Bool) (o : Order le) (key : A → K) w
   unfolding last
   over d zero h s = h
   over d (suc n) All.none s = All.none
-  over d (suc n) (All.also p h) (Sorted.next {x = x} g s) = over (key x) n g s
+  over d (suc n) (All.also {x = x} {l = l} p h) (Sorted.next g s) = over {l = l} (key x) n g s
 
   -- the last key of the first half is no greater than any of the second
   pub above_first : {l : List A} (d : K) → ByKey l → All (λ y. T (le (last d (map key (first_half l))) (key y))) (second_half l)
@@ -68,7 +68,7 @@ module _ {A K : Type 0} (le : K → K → Bool) (o : Order le) (key : A → K) w
   place zero d e (Sorted.next {x = x} h s) = (All.also (le_self le o (key x)) All.none, All.also (le_self le o (key x)) h)
   place (suc j) d e Sorted.none = absurd (omega arith)
   place (suc j) d e (Sorted.next {x = x} {l = l} h s) =
-      let ih = place j d (omega arith) s in (All.also (all_get_d j d (omega arith) h) ih.0, ih.1)
+      let ih = place {l = l} j d (omega arith) s in (All.also (all_get_d j d (omega arith) h) ih.0, ih.1)
 
   -- the first key is no greater than any, the last no smaller
   pub first_least : {l : List A} (d : A) → 1 ≤ length l → ByKey l → All (λ x. T (le (key (get_or l 0 d)) (key x))) l
