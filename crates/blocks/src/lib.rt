@@ -21,7 +21,7 @@ fn queue_at(at: usize, s: usize, high: bool) -> usize
 }
 
 // What one block leaves: the block that the walk goes on to, none where m is 0.
-#[derive(Drop)]
+#[derive(Clone, Copy)]
 pub struct Block {
     pub tally: Tally,
     pub at: usize,

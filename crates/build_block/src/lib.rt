@@ -24,7 +24,7 @@ use ordering::sort;
 use records::{Keys, as_word, clear, field, move_up};
 
 // The centre of a block, how many stay, and how many stay or go left.
-#[derive(Drop)]
+#[derive(Clone, Copy)]
 pub struct Division {
     pub centre: i32,
     pub stay: usize,

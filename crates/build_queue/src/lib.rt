@@ -15,7 +15,7 @@ use paper::Descriptor;
 use records::{field, move_up};
 
 // Which words of a record are its near end, its far end and its level; where the table's segments stand.
-#[derive(Drop)]
+#[derive(Clone, Copy)]
 pub struct Ends {
     pub near: usize,
     pub far: usize,

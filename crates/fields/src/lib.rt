@@ -11,7 +11,7 @@ ghost use Rattle.fields.specs.Forms.{numbers_from, is_field, is_pair, made_of, f
 use paper::{Segment, Window};
 
 // A number of a line, or another form.
-#[derive(Drop)]
+#[derive(Clone, Copy)]
 pub enum Number {
     Is(i64),
     Other,
@@ -143,7 +143,7 @@ pub fn end_of(text: &[u8], a: usize, mark: u8) -> usize
 // ---- the forms of a line
 
 // A number that starts at a place of a line, and the place where the next would start: past the line's end where this one is the last.
-#[derive(Drop)]
+#[derive(Clone, Copy)]
 pub enum Field {
     Is(i64, usize),
     Other,
@@ -163,7 +163,7 @@ fn field_at(f: &[u8], a: usize) -> Field
 }
 
 // Two numbers from a place on, and the place where the next would start.
-#[derive(Drop)]
+#[derive(Clone, Copy)]
 pub enum Pair {
     Are(i64, i64, usize),
     Other,
@@ -182,7 +182,7 @@ fn pair_at(f: &[u8], a: usize) -> Pair
 }
 
 // Four numbers, no more and no fewer, from a place to the line's end.
-#[derive(Drop)]
+#[derive(Clone, Copy)]
 pub enum Four {
     Are(i64, i64, i64, i64),
     Other,
@@ -204,7 +204,7 @@ fn four_at(f: &[u8], a: usize) -> Four
 }
 
 // A line by its form.
-#[derive(Drop)]
+#[derive(Clone, Copy)]
 pub enum Line {
     // T kind, lower bound
     Table(i64, i64),

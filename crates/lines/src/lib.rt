@@ -16,7 +16,7 @@ use fields::Line;
 use paper::{Descriptor, Segment, Window};
 
 // What a T line says, and how many S lines have come; their segments stand in a lent table, four cells each.
-#[derive(Drop)]
+#[derive(Clone, Copy)]
 pub struct Table {
     pub kind: i64,
     pub lower: i64,
@@ -24,7 +24,7 @@ pub struct Table {
 }
 
 // The state between lines.
-#[derive(Drop)]
+#[derive(Clone, Copy)]
 pub enum State {
     // nothing read
     Start,
@@ -35,7 +35,7 @@ pub enum State {
 }
 
 // What a line does: the number of its fault, or the state after it and the place after what it prints.
-#[derive(Drop)]
+#[derive(Clone, Copy)]
 pub enum Outcome {
     Fault(usize),
     Next(State, usize),
@@ -215,7 +215,7 @@ fn step(
 
 // Where the reading stands: the state, the number of the line that is being read, how many bytes of it were carried over from the chunks before, the place in
 // the chunk, the place in the output, and whether a fault has ended it.
-#[derive(Drop)]
+#[derive(Clone, Copy)]
 pub struct Reader {
     pub state: State,
     pub line: usize,

@@ -16,7 +16,7 @@ use tally::{Index, Tally, coordinate_at, see, stop, whole_at};
 use whole::cell;
 
 // How the first and last x of a node lie: a spoiled word, beside the window, inside it, or neither.
-#[derive(Drop)]
+#[derive(Clone, Copy)]
 pub enum Ends {
     Bad,
     Out,
@@ -78,7 +78,7 @@ fn count_at_is(words: &[i32], n: usize, size: usize, p: usize, at: usize) -> usi
 }
 
 // What one node leaves: whether the walk goes on below it, and then left p.
-#[derive(Drop)]
+#[derive(Clone, Copy)]
 pub struct Turn {
     pub tally: Tally,
     pub below: bool,

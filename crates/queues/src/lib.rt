@@ -14,7 +14,7 @@ use tally::{Index, Tally, coordinate_at, keeps, list, reaches, see, stop, whole_
 use whole::cell;
 
 // What is looked for: axis 0 the horizontals, 1 the verticals; the edge that near or far is held against; the band of levels.
-#[derive(Drop)]
+#[derive(Clone, Copy)]
 pub struct Band {
     pub axis: usize,
     pub edge: i64,
@@ -54,7 +54,7 @@ fn in_band(words: &[i32], band: Band, p: usize) -> bool
 }
 
 // What a queue does itself, and whether the walk goes on to its left and its right.
-#[derive(Drop)]
+#[derive(Clone, Copy)]
 pub struct Head {
     pub tally: Tally,
     pub left: bool,

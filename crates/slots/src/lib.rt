@@ -13,7 +13,7 @@ use paper::Window;
 use tally::{Index, Tally, coordinate_at, keeps, levels_at, list, reaches, see, stop, whole_at};
 
 // What the search leaves: the slot to begin at.
-#[derive(Drop)]
+#[derive(Clone, Copy)]
 pub struct Found {
     pub tally: Tally,
     pub p: usize,
@@ -58,7 +58,7 @@ pub fn search(words: &[i32], n: usize, window: Window, tally0: Tally) -> Found
 }
 
 // What one slot leaves: whether the next one is read, which is not so after a spoiled word.
-#[derive(Drop)]
+#[derive(Clone, Copy)]
 pub struct Slot {
     pub tally: Tally,
     pub more: bool,

@@ -144,7 +144,7 @@ fn first_row(len: i64, descriptor: Descriptor, n: usize) -> usize
 }
 
 // Where a cell stands.
-#[derive(Drop)]
+#[derive(Clone, Copy)]
 pub struct Place {
     pub position: usize,
     pub coordinate: usize,

@@ -13,7 +13,7 @@ ghost use Rattle.tally.specs.Reads.{or_else};
 use whole::{at_most, cell};
 
 // Whether a spoiled word has been read (0 until then), how many numbers are listed, how many visits there were.
-#[derive(Drop)]
+#[derive(Clone, Copy)]
 pub struct Tally {
     pub stopped: usize,
     pub listed: usize,
@@ -21,7 +21,7 @@ pub struct Tally {
 }
 
 // What an index's header says of every number: how many there are, and the first.
-#[derive(Drop)]
+#[derive(Clone, Copy)]
 pub struct Index {
     pub n: usize,
     pub lower: i64,

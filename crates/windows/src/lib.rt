@@ -16,7 +16,7 @@ use paper::{Reply, Window};
 use tally::Tally;
 
 // What was asked: the windows before one whose walk is spoiled, and of these together the numbers due and the visits.
-#[derive(Drop)]
+#[derive(Clone, Copy)]
 pub struct Asked {
     pub windows: usize,
     pub due: usize,

@@ -11,7 +11,7 @@ use fields::Line;
 use paper::{Descriptor, Segment};
 
 // What a line does: the number of its fault, or how many segments there are after it.
-#[derive(Drop)]
+#[derive(Clone, Copy)]
 pub enum Taken {
     Fault(usize),
     Next(usize),

@@ -6,7 +6,7 @@ ghost use Rattle.wkt_read.specs.Machine.{name, empty, is_sign, onward as Onward,
 ghost use Rattle.wkt_read.specs.Sound.{Bound};
 
 // What a text has come to: the token that is due, or how much of it has been read.
-#[derive(Drop)]
+#[derive(Clone, Copy)]
 pub enum State {
     // MULTILINESTRING is due; as many of its letters have been read; it has just ended
     Start,

@@ -17,7 +17,7 @@ mod automaton;
 
 // What a pass over the bytes carries: the state, and the sign and value of the number that is being read. A value beyond the limits is kept at
 // one above them, however many digits follow.
-#[derive(Drop)]
+#[derive(Clone, Copy)]
 pub struct Reader {
     pub state: State,
     pub negative: bool,
@@ -25,14 +25,14 @@ pub struct Reader {
 }
 
 // How many numbers a text holds so far, and how many stand before the first beyond the limits.
-#[derive(Drop)]
+#[derive(Clone, Copy)]
 pub struct Tally {
     pub numbers: usize,
     pub fitting: usize,
 }
 
 // Whether a text is accepted; the place of the refusal where it is not, and its numbers where it is.
-#[derive(Drop)]
+#[derive(Clone, Copy)]
 pub struct Judged {
     pub accepted: bool,
     pub place: usize,

@@ -1,4 +1,4 @@
--- `tally::number` meets its contract: the sum is within 31 bits. Assumes nothing.
+-- What the check leaves of `number`.
 use mathlib.Core.Path.{◌≡◌, refl, sym, ap, subst, ◌∙◌}
 use mathlib.Core.Bool.{Bool, true, false, true≢false, ◌&&◌}
 use Prim.Native.Nat.{ℕ, ◌<◌}
@@ -12,8 +12,7 @@ use mir.ValLaws.{to_z-of_z, to_z_pos}
 use mir.Facts.{sfits_widen}
 use Rattle.whole.specs.Whole.{whole, of, #, ◌⊕◌}
 use Rattle.paper.specs.Limits.{lower_fits}
-use Rattle.tally.proofs.number.Statement.{statement}
-use Rattle.tally.proofs.number.Tie as tie
+use Rattle.tally.proofs.number.Goals as goal
 
 both : (a b : Bool) → (a && b) ≡ true → (a ≡ true) × (b ≡ true)
 both true b e = (refl, e)
@@ -28,21 +27,15 @@ near l p h hp =
 sum : (l : ℤ) (p : ℕ) → SFits w64 l → p < 65536 → to_z w64 (of_z w64 l) +ℤ to_z w64 p ≡ l +ℤ pos p
 sum l p f hp = ap (λ (x : ℤ). x +ℤ to_z w64 p) (to_z-of_z w64 l f) ∙ ap (λ (x : ℤ). l +ℤ x) (to_z_pos w64 p (omega arith))
 
-cast-result : tie.Need-overflow-cast-result
-cast-result c = search rules
-
-add-result : tie.Need-overflow-add-result
-add-result c =
-    subst (λ (x : ℤ). SFits w64 x) (sym (sum _ _ c.ranges.lower c.requires.1)) (sfits_widen {w = w32} tt (near c.args.lower c.args.p c.requires.0 c.requires.1))
-
-wide : (c : tie.Start) → to_z w64 (of_z w64 (to_z w64 (of_z w64 c.args.lower) +ℤ to_z w64 c.args.p)) ≡ c.args.lower +ℤ pos c.args.p
+wide : (c : goal.Start) → to_z w64 (of_z w64 (to_z w64 (of_z w64 c.args.lower) +ℤ to_z w64 c.args.p)) ≡ c.args.lower +ℤ pos c.args.p
 wide c = to_z-of_z w64 _ (add-result c) ∙ sum _ _ c.ranges.lower c.requires.1
 
-cast-result-2 : tie.Need-overflow-cast-result-2
-cast-result-2 c = subst (λ (x : ℤ). SFits w32 x) (sym (wide c)) (near c.args.lower c.args.p c.requires.0 c.requires.1)
+pub overflow_add-result : goal.overflow_add-result
+overflow_add-result c =
+    subst (λ (x : ℤ). SFits w64 x) (sym (sum _ _ c.ranges.lower c.requires.1)) (sfits_widen {w = w32} tt (near c.args.lower c.args.p c.requires.0 c.requires.1))
 
-returns : tie.Need-returns
+pub overflow_cast-result-2 : goal.overflow_cast-result-2
+overflow_cast-result-2 c = subst (λ (x : ℤ). SFits w32 x) (sym (wide c)) (near c.args.lower c.args.p c.requires.0 c.requires.1)
+
+pub returns : goal.returns
 returns c = to_z-of_z w32 _ (cast-result-2 c) ∙ wide c
-
-pub number_spec : {M : Type 1} → statement M
-number_spec = tie.close (tie.spec cast-result add-result cast-result-2 returns)

@@ -1,4 +1,4 @@
--- `tally::whole_at` meets its contract. Assumes nothing.
+-- What the check leaves of `whole_at`.
 use mathlib.Core.Path.{◌≡◌, refl, sym, ap, subst, ◌∙◌}
 use mathlib.Core.Bool.{true, false, true≢false}
 use Prim.Native.Nat.{ℕ, ◌+◌, ◌<◌, ◌^◌}
@@ -13,10 +13,8 @@ use mir.Val.{Fits, hbits, to_z, of_z}
 use Rattle.whole.specs.Whole.{kept}
 use Rattle.paper.specs.Walk.{word}
 use Rattle.tally.specs.Reads.{or_else}
-use Rattle.tally.proofs.whole_at.Statement.{statement}
-use Rattle.tally.proofs.whole_at.Tie as tie
+use Rattle.tally.proofs.whole_at.Goals as goal
 
--- z is the word v, read back from its bits
 module _ (d : ℕ) (z v : ℤ) (back : z ≡ v) where
   negative : lt_z z (pos 0) ≡ true → d ≡ or_else d v
   negative h = go v (ap (λ (x : ℤ). lt_z x (pos 0)) (sym back) ∙ h)
@@ -40,24 +38,14 @@ module _ (d : ℕ) (z v : ℤ) (back : z ≡ v) where
     said m = plain (λ x. (nat_abs x ≡ or_else d v) × (nat_abs x < 2147483648 + d)) (λ a e. (ap (or_else d) (sym e), omega (arith, ap mag e)))
 
 -- the word, read back
-told : (c : tie.After-said) → to_z w32 (of_z w32 (word c.before.args.words.now c.before.args.at)) ≡ word c.before.args.words.now c.before.args.at
-told c = kept w32 _ c.said.given
+told : (c : goal.After-said-1) → to_z w32 (of_z w32 (word c.before.args.words.now c.before.args.at)) ≡ word c.before.args.words.now c.before.args.at
+told c = kept w32 _ c.said-1.given
 
-mul-said : tie.Need-overflow-mul-said
-mul-said c = search rules
+pub returns-then-said-lt0 : goal.returns-then-said-lt0
+returns-then-said-lt0 c = (negative _ _ _ (told c) c.if-said-lt0.true, omega arith)
 
-shared-slice-copy-out-said : tie.Need-shared-slice-copy-out-said
-shared-slice-copy-out-said c = search rules
+pub overflow_cast-result : goal.overflow_cast-result
+overflow_cast-result c = cast 0 _ _ (told c) c.if-said-lt0.false c.said-1.given
 
-returns : tie.Need-returns
-returns c = (negative _ _ _ (told c.before) c.if1.true, omega arith)
-
-cast-result : tie.Need-overflow-cast-result
-cast-result c = cast 0 _ _ (told c.before) c.if1.false c.before.said.given
-
-returns-2 : tie.Need-returns-2
-returns-2 c = said _ _ _ (told c.before) c.if1.false c.before.said.given
-
-pub whole_at_spec : {M : Type 1} → statement M
-whole_at_spec =
-    tie.close (tie.spec mul-said shared-slice-copy-out-said returns cast-result returns-2)
+pub returns : goal.returns
+returns c = said _ _ _ (told c) c.if-said-lt0.false c.said-1.given
