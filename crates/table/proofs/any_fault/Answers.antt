@@ -1,9 +1,8 @@
 -- What the check leaves of `any_fault`.
-use mathlib.Core.Path.{◌≡◌, sym, ap, ap₂, ◌∙◌}
+use mathlib.Core.Path.{sym, ap, ap₂, ◌∙◌}
 use mathlib.Core.Bool.{Bool, ◌||◌}
-use Prim.Native.Nat.{ℕ, ◌≤◌, ◌-◌}
+use Prim.Native.Nat.{ℕ}
 use native.Mathlib.Omega.{arith}
-use Rattle.lists.specs.Plain.{any, positions}
 use Rattle.lists.specs.Choosing.{any_zero, any_next}
 use Rattle.paper.specs.Descriptor.{segment_of}
 use Rattle.table.specs.Cells.{fault}

@@ -1,13 +1,9 @@
 -- The loops of `any_fault`.
-use mathlib.Core.Path.{◌≡◌, sym, ap, ap₂, ◌∙◌}
-use mathlib.Core.Bool.{Bool, ◌||◌}
-use Prim.Native.Nat.{ℕ, ◌≤◌, ◌-◌}
-use native.Mathlib.Omega.{arith}
+use mathlib.Core.Path.{◌≡◌}
+use Prim.Native.Nat.{◌≤◌, ◌-◌}
 use Rattle.lists.specs.Plain.{any, positions}
-use Rattle.lists.specs.Choosing.{any_zero, any_next}
 use Rattle.paper.specs.Descriptor.{segment_of}
 use Rattle.table.specs.Cells.{fault}
-use borrow.Author.Rules.{rules}
 use Rattle.table.proofs.any_fault.Given as goal
 
 abbrev pub invariant-loop-i : goal.invariant-loop-i

@@ -4,7 +4,6 @@ use native.Mathlib.Omega.{arith}
 use mir.Syntax.{w64}
 use mir.ValLaws.{to_z-of_z}
 use Rattle.table.specs.Rows.{ends_decide}
-use borrow.Author.Rules.{rules}
 use Rattle.table.proofs.any_outside.Goals as goal
 
 pub returns : goal.returns

@@ -1,6 +1,5 @@
 -- What the check leaves of `digits`.
 use mathlib.Core.Path.{◌≡◌, ap}
-use Prim.Native.Nat.{◌+◌}
 use native.Mathlib.Omega.{arith}
 use Rattle.lists.specs.Digits.{digits_step, digits_zero, digits_least}
 use Rattle.paper.specs.Words.{L}

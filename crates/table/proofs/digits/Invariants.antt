@@ -1,8 +1,6 @@
 -- The loops of `digits`.
-use mathlib.Core.Path.{◌≡◌, ap}
+use mathlib.Core.Path.{◌≡◌}
 use Prim.Native.Nat.{◌+◌}
-use native.Mathlib.Omega.{arith}
-use Rattle.lists.specs.Digits.{digits_step, digits_zero, digits_least}
 use Rattle.paper.specs.Words.{L}
 use Rattle.table.proofs.digits.Given as goal
 

@@ -7,19 +7,19 @@ use mir.Syntax.{w64}
 use mir.ValLaws.{to_z-of_z}
 use Rattle.lists.specs.Choosing.{First}
 use Rattle.paper.specs.Descriptor.{outside, size_of, cell_of}
-use Rattle.table.specs.Cells.{row_outside, Based}
+use Rattle.table.specs.Cells.{row_outside}
 use Rattle.table.specs.Rows.{first_cell, base_outside, first_through}
-use borrow.Author.Rules.{rules}
 use Rattle.table.proofs.first_outside.Goals as goal
+use Rattle.table.proofs.first_outside.Goals.{After-bad_base, After-first_row-position}
 
 -- the base, as the code has it
-base : (c : goal.After-bad_base) → outside c.before.before.before.args.len c.before.before.before.args.descriptor.base ≡ c.bad-base.result
+base : (c : After-bad_base) → outside c.args.len c.args.descriptor.base ≡ c.bad_base.result
 base c =
     let s = c in
     ap (λ l. outside l s.args.descriptor.base) (sym (to_z-of_z w64 s.args.len s.ranges.len)) ∙ sym c.bad_base.ensures
 
 -- the first row, by the table's length itself
-row : (c : goal.After-first_row-position) → First (row_outside c.before.before.before.before.before.args.len c.before.before.before.before.before.args.descriptor) (size_of c.before.before.before.before.before.args.descriptor) c.first-row.result
+row : (c : After-first_row-position) → First (row_outside c.args.len c.args.descriptor) (size_of c.args.descriptor) c.first_row-position.result
 row c =
     let s = c in
     subst (λ n. First (row_outside s.args.len s.args.descriptor) n c.first_row-position.result) c.count-n.ensures.0

@@ -1,7 +1,6 @@
 -- What the check leaves of `first_slanted`.
 use Rattle.paper.specs.Answers.{slanted}
 use Rattle.table.specs.Segments.{first_answer}
-use borrow.Author.Rules.{rules}
 use Rattle.table.proofs.first_slanted.Goals as goal
 
 pub returns : goal.returns

@@ -1,6 +1,5 @@
 -- What the check leaves of `offset`.
-use Rattle.table.specs.Address.{row_fits, column_fits, sum_fits, sum_is}
-use borrow.Author.Rules.{rules}
+use Rattle.table.specs.Address.{sum_fits, sum_is}
 use Rattle.table.proofs.offset.Goals as goal
 
 pub overflow_add-result : goal.overflow_add-result

@@ -4,13 +4,12 @@ use Prim.Native.Nat.{◌+◌, ◌-◌, ◌*◌, ◌≤◌}
 use native.Mathlib.Omega.{arith}
 use native.Mathlib.Nat.{mul-le-mul}
 use Rattle.lists.specs.Digits.{digits_least}
-use borrow.Author.Rules.{rules}
 use Rattle.table.proofs.words.Goals as goal
 
-few : (c : goal.After-digits-levels) → c.digits.result ≤ 12
+few : (c : goal.After-digits-levels) → c.digits-levels.result ≤ 12
 few c = let s = c in rw c.digits-levels.ensures (digits_least (s.args.n - 1) 12 (omega (arith, s.requires)))
 
-most : (c : goal.After-digits-levels) → c.before.before.args.n * (c.digits.result + 1) ≤ 4096 * 13
+most : (c : goal.After-digits-levels) → c.args.n * (c.digits-levels.result + 1) ≤ 4096 * 13
 most c = let l : c.digits-levels.result + 1 ≤ 13 = omega (arith, few c) in mul-le-mul c.requires l
 
 pub overflow_add-levels : goal.overflow_add-levels
