@@ -25,7 +25,7 @@ returns-then-number-eq12 c =
     let p = c.first_outside-first in
     let o = outside_given a.table.now a.descriptor a.number s.requires.0 c.if-number-eq12.true in
     c.refusal.ensures
-    ∙ ap refused (sym (outside_at_is (size_of a.descriptor) p.result.position p.result.coordinate (ap (λ l. bad_cells l a.descriptor) (sym (to_z-of_z w64 n.result n.ensures.1 ∙ n.ensures.0)) ∙ p.ensures.0) o.2))
+    ∙ ap refused (sym (outside_at_is (size_of a.descriptor) p.result.position p.result.coordinate (ap (λ l. bad_cells l a.descriptor) (sym (to_z-of_z w64 n.result n.ensures.fits ∙ n.ensures.value)) ∙ p.ensures.0) o.2))
     ∙ by_outside a.table.now a.descriptor a.number s.requires.0 (done 0 0) c.if-number-eq12.true
 
 pub returns : goal.returns
