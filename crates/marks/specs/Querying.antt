@@ -12,7 +12,7 @@ use Rattle.paper.specs.Orders.{bad_index, is_stopped, due_by}
 use Rattle.paper.specs.Walk.{word, size_in, Walked, walked, stopped, walk_of}
 use Rattle.paper.specs.Results.{Result, over, numbers_of, listing, queried}
 use Rattle.paper.specs.Demands.{QueryPromise, QueryPromises}
-use Rattle.promise.specs.Demands.{query_promise}
+use Rattle.promise.proofs.Demands.{query_promise}
 use Rattle.promise.specs.Calls.{listed_in}
 use Rattle.paper.specs.declared.Window.{Window}
 use Rattle.tally.specs.Fold.{Given}

@@ -1,7 +1,7 @@
 -- From positions to what a caller reads: the numbers in the cells (`once_numbers`), what a builder that is done has written (`build_done`), and the answer
 -- of a query over an index (`query_done`).
 -- Use: cite Demands. No definition of the words or the walk has to be opened for it.
-use Rattle.std.specs.Prelude.{◌≡◌, List, [], ◌∷◌, map, Bool, ◌||◌, cond, ℕ, zero, ◌+◌, ◌≤◌, ◌<◌, length, drop, ℤ, pos, negsuc, ◌+ℤ◌, T, eqb, ltb, leb}
+use Rattle.std.specs.Prelude.{◌≡◌, List, [], ◌∷◌, map, Bool, ◌||◌, cond, ℕ, ◌+◌, ◌≤◌, ◌<◌, length, drop, ℤ, pos, negsuc, ◌+ℤ◌, T, eqb, ltb, leb}
 use Rattle.std.proofs.Math.Path.{refl, ap₂}
 use Rattle.std.proofs.Common.{sym, ap, ◌∙◌, subst, arith, length-append, take_at, eqb→eq, le→leb, leb→le}
 use Rattle.std.proofs.Math.Bool.{true, false, not}

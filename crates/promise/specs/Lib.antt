@@ -1,6 +1,6 @@
--- Demands has the theorems. Below it the proof, in the order in which it is read: words at their places and what events count; the queue and the block over
--- either axis; the tree of the low ends over lists, then over words, then by itself; groups and Meeting; the whole walk; an index; the calls; one table.
-pub mod Demands
+-- The proof's parts, in the order in which they are read: words at their places and what events count; the queue and the block over either axis; the tree
+-- of the low ends over lists, then over words, then by itself; groups and Meeting; the whole walk; an index; the calls; one table. The theorems that put
+-- them together are in proofs/ (Demands).
 pub mod Places
 pub mod Events
 pub mod Queue

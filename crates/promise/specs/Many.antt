@@ -13,18 +13,16 @@ use Rattle.lists.specs.Plain.{to_nat, joined, sum}
 use Rattle.lists.specs.Tests.{clash}
 use Rattle.lists.specs.Every.{All, all_map, all_zip}
 use Rattle.lists.specs.Positions.{positions_below, joined_length}
-use Rattle.lists.specs.Choosing.{chosen_none, none_chosen}
+use Rattle.lists.specs.Choosing.{none_chosen}
 use Rattle.paper.specs.Descriptor.{number_of}
 use Rattle.paper.specs.Answers.{answer_at, bad_room, bad_slice, bad_window, bad_windows, refused, done}
 use Rattle.paper.specs.Windows.{window_count, window_at, windows_of, windows_where}
 use Rattle.paper.specs.Orders.{bad_index, bad_walks, is_stopped, due_by, due_to_all, query_order, many_order}
 use Rattle.paper.specs.Walk.{word, Walked, walked, stopped, walk_of}
 use Rattle.paper.specs.Results.{Result, ManyResult, over, numbers_of, listing, queried, in_turn, queried_many}
-use Rattle.paper.specs.Demands.{IndexOf}
 use Rattle.paper.specs.declared.Reply.{Reply}
-use Rattle.paper.specs.declared.Segment.{Segment}
 use Rattle.paper.specs.declared.Window.{Window}
-use Rattle.promise.specs.Index.{none_given, index_walks}
+use Rattle.promise.specs.Index.{none_given}
 use Rattle.promise.specs.Calls.{listed_in, visits_in, not_judged}
 
 -- ---- what an order says that has passed over windows
@@ -143,9 +141,3 @@ module _ (ws : List ℤ) where
           → queried_many ws edges counts numbers ≡ (refused (bad_room (due_to_all ws (windows_of edges)) (length numbers)), counts, numbers)
       unfolding queried_many
       many_short h = rw (sound, slice, windows, walks, lt-ltb (length numbers) (due_to_all ws (windows_of edges)) h) refl
-
--- no walk of an index is spoiled
-pub walks_end : (first : ℤ) (segments : List Segment) (ws edges : List ℤ) → IndexOf first segments ws → (bad_walks ws edges).given ≡ false
-walks_end first segments ws edges index =
-    ap (λ (ps : List ℕ). (answer_at 10 ps).given)
-    (chosen_none (λ i. is_stopped (walk_of ws (window_at edges i))) (window_count edges) (λ p h. ap is_stopped (index_walks first segments (window_at edges p) ws index).ends))

@@ -3,27 +3,27 @@
 -- Use: `walk_ends` says what comes of the walk: the positions `listed`, of which `inside_lists`, `across_lists` and `along_lists` speak, in so many visits as
 -- `whole_visits` allows.
 use Rattle.std.specs.Prelude.{◌≡◌, Bool, true, false, not, ◌&&◌, ℕ, zero, suc, ◌+◌, ◌-◌, ◌*◌, ◌^◌, ◌≤◌, ◌<◌, length, ℤ, T, eqb}
-use Rattle.std.proofs.Math.Path.{refl, ap₂}
-use Rattle.std.proofs.Common.{ap, ◌∙◌, zero-add, arith}
-use mathlib.Core.List.{List, [], ◌∷◌, ◌++◌}
+use Rattle.std.proofs.Math.Path.{refl}
+use Rattle.std.proofs.Common.{ap, ◌∙◌, arith}
+use mathlib.Core.List.{List, [], ◌++◌}
 use Rattle.std.specs.Int.Signed.{le_z}
 use Rattle.std.proofs.Math.Dec.{eqb-suc-zero}
 use Rattle.lists.specs.Plain.{to_nat, positions, filter, count}
 use Rattle.lists.specs.Every.{All, filter_keeps}
 use Rattle.lists.specs.Counting.{count_append, count_le, filter_count, filter_length}
 use Rattle.lists.specs.Positions.{positions_length, positions_below}
-use Rattle.lists.specs.Digits.{digits_bound, digits_mono}
+use Rattle.lists.specs.Digits.{digits_bound}
 use Rattle.paper.specs.Descriptor.{at}
 use Rattle.paper.specs.Words.{L, D, levels_at, blocks_at, is_horizontal, horizontals, verticals, levels_words, Axis, horizontal, vertical, near_of, far_of, block_words}
 use Rattle.paper.specs.Walk.{Event, when, word, record_at, search, node_walk, block_walk, size_in, walk, walked, run, walk_of}
-use Rattle.paper.specs.Demands.{most_visits, crosses, low_end_inside}
+use Rattle.paper.specs.Demands.{crosses}
 use Rattle.paper.specs.declared.Segment.{Segment}
 use Rattle.paper.specs.declared.Window.{Window}
 use Rattle.promise.specs.Places.{At}
-use Rattle.promise.specs.Events.{is_due, is_visit, is_spoiled, Clean, visits_of, dues_of, dues, dues_append, dues_length, run_ends}
+use Rattle.promise.specs.Events.{is_due, is_spoiled, Clean, visits_of, dues_of, dues, dues_append}
 use Rattle.promise.specs.Block as B
-use Rattle.promise.specs.LowEnds.{low_events, low_clean, low_lists, low_visits, low_then}
-use Rattle.promise.specs.Groups.{Rises, is_across, is_along, in_group, one_group}
+use Rattle.promise.specs.LowEnds.{low_events, low_clean}
+use Rattle.promise.specs.Groups.{Rises, is_across, is_along}
 
 -- words in which the parts of an index over records rs stand at their places, whatever else they hold
 pub record Placed (rs : List Segment) (ws : List ℤ) : Type 0 where
@@ -36,18 +36,18 @@ pub record Placed (rs : List Segment) (ws : List ℤ) : Type 0 where
   pub along_block : At ws (blocks_at (length rs) + 8 * length (horizontals rs)) (block_words rs vertical (verticals rs))
 
 -- the walk by the sizes that the header says
-abbrev walk_by : List ℤ → Window → ℕ → ℕ → ℕ → List Event
+abbrev pub walk_by : List ℤ → Window → ℕ → ℕ → ℕ → List Event
 walk_by ws w n mh mv =
     when (not (eqb n 0)) (search ws n w λ p.
     node_walk ws n w (D n - 1) n p (levels_at n)
     ++ (block_walk ws n w horizontal w.a w.c w.d mh (blocks_at n)
     ++ block_walk ws n w vertical w.c w.a w.b mv (blocks_at n + 8 * mh)))
 
-walk_by_is : (ws : List ℤ) (w : Window) → walk ws w ≡ walk_by ws w (size_in ws) (to_nat (word ws 2)) (to_nat (word ws 3))
+pub walk_by_is : (ws : List ℤ) (w : Window) → walk ws w ≡ walk_by ws w (size_in ws) (to_nat (word ws 2)) (to_nat (word ws 3))
 unfolding walk
 walk_by_is ws w = refl
 
-some_walk : (n : ℕ) (es : List Event) → 1 ≤ n → when (not (eqb n 0)) es ≡ es
+pub some_walk : (n : ℕ) (es : List Event) → 1 ≤ n → when (not (eqb n 0)) es ≡ es
 some_walk zero es h = absurd (omega arith)
 some_walk (suc n) es h = rw (eqb-suc-zero n) refl
 
@@ -88,7 +88,7 @@ module _ (rs : List Segment) (w : Window) (rise : (p : ℕ) → Rises (at rs p))
         ∙ filter_count (λ x. q x && crosses axis e lo hi (at rs x)) t (positions n)
         ∙ ap (λ (u : ℕ → Bool). count u (positions n)) (λ j x. and_swap (q x) (crosses axis e lo hi (at rs x)) (t x) j)
 
-    part_visits : visits_of block_events ≤ 2 * dues_of block_events + 2 * (L n * L n) + 4 * L n
+    pub part_visits : visits_of block_events ≤ 2 * dues_of block_events + 2 * (L n * L n) + 4 * L n
     part_visits =
         omega (
           arith,
@@ -96,7 +96,7 @@ module _ (rs : List Segment) (w : Window) (rise : (p : ℕ) → Rises (at rs p))
           B.block_lists rs axis tidy e lo hi (λ x. true) (length part) part i (omega arith),
         )
 
-    part_walk : (ws : List ℤ) → ((p : ℕ) → p < n → record_at ws p ≡ at rs p) → At ws i (block_words rs axis part) → block_walk ws n w axis e lo hi (length part) i ≡ block_events
+    pub part_walk : (ws : List ℤ) → ((p : ℕ) → p < n → record_at ws p ≡ at rs p) → At ws i (block_words rs axis part) → block_walk ws n w axis e lo hi (length part) i ≡ block_events
     part_walk ws reads a = B.block_walk_is rs axis tidy e lo hi ws n w reads (length part) part i (omega arith) part_below a
 
   pub tidy_across : (p : ℕ) → T (le_z (near_of rs horizontal p) (far_of rs horizontal p))
@@ -105,10 +105,10 @@ module _ (rs : List Segment) (w : Window) (rise : (p : ℕ) → Rises (at rs p))
   pub tidy_along : (p : ℕ) → T (le_z (near_of rs vertical p) (far_of rs vertical p))
   tidy_along p = (rise p).along
 
-  abbrev flat_at : ℕ → Bool
+  abbrev pub flat_at : ℕ → Bool
   flat_at p = is_horizontal (at rs p)
 
-  abbrev steep_at : ℕ → Bool
+  abbrev pub steep_at : ℕ → Bool
   steep_at p = not (is_horizontal (at rs p))
 
   -- ---- the three groups, and the whole
@@ -128,13 +128,13 @@ module _ (rs : List Segment) (w : Window) (rise : (p : ℕ) → Rises (at rs p))
   abbrev pub listed : List ℕ
   listed = dues inside_events ++ (dues across_events ++ dues along_events)
 
-  listed_is : dues whole ≡ listed
+  pub listed_is : dues whole ≡ listed
   listed_is = dues_append inside_events (across_events ++ along_events) ∙ ap (λ (l : List ℕ). dues inside_events ++ l) (dues_append across_events along_events)
 
-  tally : (q : Event → Bool) → count q whole ≡ count q inside_events + (count q across_events + count q along_events)
+  pub tally : (q : Event → Bool) → count q whole ≡ count q inside_events + (count q across_events + count q along_events)
   tally q = omega (arith, count_append q inside_events (across_events ++ along_events), count_append q across_events along_events)
 
-  whole_clean : Clean whole
+  pub whole_clean : Clean whole
   whole_clean =
       omega (
         arith,
@@ -149,66 +149,6 @@ module _ (rs : List Segment) (w : Window) (rise : (p : ℕ) → Rises (at rs p))
 
   pub along_lists : (q : ℕ → Bool) → count (is_due q) along_events ≡ count (λ x. q x && is_along w (at rs x)) (positions n)
   along_lists q = part_lists vertical tidy_along steep_at w.c w.a w.b (blocks_at n + 8 * length hs) q
-
-  group_sum : (l : List ℕ) → count (λ x. low_end_inside w (at rs x)) l + (count (λ x. is_across w (at rs x)) l + count (λ x. is_along w (at rs x)) l) ≡ count (λ x. in_group w (at rs x)) l
-  unfolding count
-  group_sum [] = refl
-  group_sum (x ∷ l) = omega (arith, group_sum l, one_group w (at rs x))
-
-  module _ (some : 1 ≤ n) where
-    pub inside_lists : (q : ℕ → Bool) → count (is_due q) inside_events ≡ count (λ x. q x && low_end_inside w (at rs x)) (positions n)
-    inside_lists q = low_lists rs w some q
-
-    -- no more than n are due, so the walk never stops for want of room
-    at_most : dues_of whole ≤ n
-    at_most =
-        omega (
-          arith,
-          tally (is_due (λ x. true)),
-          inside_lists (λ x. true),
-          across_lists (λ x. true),
-          along_lists (λ x. true),
-          group_sum (positions n),
-          count_le (λ x. in_group w (at rs x)) (positions n),
-          positions_length n,
-        )
-
-    pub whole_few : length listed ≤ n
-    whole_few = omega (arith, at_most, ap (λ (l : List ℕ). length l) listed_is, dues_length whole)
-
-    pub whole_visits : visits_of whole ≤ most_visits n (length listed)
-    whole_visits =
-        omega (
-          arith,
-          tally is_visit,
-          tally (is_due (λ x. true)),
-          ap (λ (l : List ℕ). length l) listed_is,
-          dues_length whole,
-          low_visits rs w some,
-          digits_mono (n - 1) n (omega arith),
-          part_visits horizontal tidy_across flat_at w.a w.c w.d (blocks_at n),
-          part_visits vertical tidy_along steep_at w.c w.a w.b (blocks_at n + 8 * length hs),
-        )
-
-    -- ---- the walk over placed words is this one
-    module _ (ws : List ℤ) (placed : Placed rs ws) where
-      walk_is : walk ws w ≡ whole
-      walk_is =
-          let across = part_walk horizontal tidy_across flat_at w.a w.c w.d (blocks_at n) ws placed.reads placed.across_block in
-          let along = part_walk vertical tidy_along steep_at w.c w.a w.b (blocks_at n + 8 * length hs) ws placed.reads placed.along_block in
-          walk_by_is ws w
-          ∙ ap (λ (k : ℕ). walk_by ws w k (to_nat (word ws 2)) (to_nat (word ws 3))) placed.size
-          ∙ ap₂ (λ (h v : ℕ). walk_by ws w n h v) placed.acrosses placed.alongs
-          ∙ some_walk n _ some
-          ∙ low_then rs w some ws placed.reads placed.levels _
-          ∙ ap₂ (λ (u v : List Event). inside_events ++ (u ++ v)) across along
-
-      pub walk_ends : walk_of ws w ≡ walked listed (visits_of whole)
-      unfolding walk_of
-      walk_ends =
-          ap₂ (λ (k : ℕ) (es : List Event). run k (walked [] 0) es) placed.size walk_is
-          ∙ run_ends n whole [] 0 whole_clean (omega (arith, at_most))
-          ∙ ap₂ walked listed_is (zero-add (visits_of whole))
 
 -- with n = 0 there are no visits
 pub none_ends : (ws : List ℤ) (w : Window) → size_in ws ≡ 0 → walk_of ws w ≡ walked [] 0

@@ -14,7 +14,7 @@ use Rattle.paper.specs.Orders.{bad_index, bad_walks, is_stopped, due_by, due_to_
 use Rattle.paper.specs.Results.{ManyResult, over, queried_many}
 use Rattle.paper.specs.Demands.{ManyPromise, ManyPromises}
 use Rattle.paper.specs.Walk.{walk_of}
-use Rattle.promise.specs.Demands.{many_promise}
+use Rattle.promise.proofs.Demands.{many_promise}
 use Rattle.promise.specs.Many.{due_to, all_due, many_done, many_short}
 use Rattle.refusals.specs.Orders.{refusal_at}
 use Rattle.table.specs.Segments.{found_first}

@@ -1,6 +1,6 @@
 -- The promises, proved: what `paper`'s Demands states holds of every index, whatever its segments, crossing or not, equal or not.
 -- Demand 2 is in `once` and `groups`, demand 3 in `few`; `ends` says that the walk is never stopped. `low_ends` (LowEnds) has the first group by itself.
-use Rattle.std.specs.Prelude.{◌≡◌, refl, false, List, map, ℕ, ◌≤◌, ℤ, pos, length, drop}
+use Rattle.std.specs.Prelude.{◌≡◌, refl, false, List, map, ℕ, ℤ, pos, length, drop}
 use Rattle.std.proofs.Common.{sym, ap, ap₂, subst, ◌∙◌, arith, take_at, le→leb}
 use Rattle.std.proofs.lemmas.List.{length-map}
 use Rattle.lists.specs.Plain.{joined}
@@ -15,8 +15,10 @@ use Rattle.paper.specs.Demands.{IndexOf, IndexDemands, ListsNumbers, most_visits
 use Rattle.paper.specs.declared.Descriptor.{Descriptor}
 use Rattle.paper.specs.declared.Segment.{Segment}
 use Rattle.paper.specs.declared.Window.{Window}
-use Rattle.promise.specs.Index.{Walks, first_word, index_walks, groups_once}
-use Rattle.promise.specs.Many.{due_to, due_length, all_due, many_done, many_short, walks_end}
+use Rattle.promise.specs.Index.{Walks, first_word}
+use Rattle.promise.proofs.Index.{index_walks, groups_once}
+use Rattle.promise.specs.Many.{due_to, due_length, all_due, many_done, many_short}
+use Rattle.promise.proofs.Many.{walks_end}
 use Rattle.promise.specs.Calls.{listed_in, visits_in, index_sound, once_numbers, listed_numbers, build_accepts, build_done, query_done, query_short}
 
 -- demands 2 and 3 on the words of an index
