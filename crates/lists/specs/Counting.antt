@@ -6,7 +6,7 @@ use Rattle.std.proofs.Math.Path.{refl, ap₂}
 use Rattle.std.proofs.Common.{sym, ap, ◌∙◌, eqb→eq}
 use mathlib.Core.List.{List, [], ◌∷◌, ◌++◌, map}
 use Rattle.std.proofs.Math.Bool.{true, false}
-use Prim.Native.Nat.{ℕ, zero, suc, ◌+◌, ◌≤◌, ◌<◌}
+use Prim.Native.Nat.{ℕ, zero, suc, ◌+◌, ◌≤◌}
 use native.Mathlib.Omega.{arith}
 use Rattle.std.proofs.Math.Dec.{T, eqb_refl}
 use Rattle.lists.specs.Plain.{count, filter}

@@ -1,7 +1,7 @@
 -- The count of binary digits (Plain's `digits`): n < 2 ^ digits n, and no smaller power will do; digits of a half.
 -- Use: `digits_bound`, `digits_least` for depths and bounds; `digits_step` for a loop that halves until 0 is left. Assumes nothing.
-use Rattle.std.specs.Prelude.{◌≡◌, refl, ℕ, zero, suc, ◌+◌, ◌-◌, ◌*◌, ◌/◌, ◌^◌, ◌≤◌, ◌<◌}
-use Rattle.std.proofs.Common.{sym, ap, ◌∙◌, arith}
+use Rattle.std.specs.Prelude.{◌≡◌, refl, ℕ, zero, suc, ◌/◌, ◌^◌, ◌≤◌, ◌<◌}
+use Rattle.std.proofs.Common.{ap, arith}
 use Rattle.std.proofs.Math.Nat.{two-pow-succ}
 use Rattle.lists.specs.Plain.{digits_to, digits}
 

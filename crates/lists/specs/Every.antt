@@ -1,12 +1,12 @@
 -- What holds of every element of a list (`All`), of each with all that follow it (`Sorted R`: sorted by a relation, or no two alike), of a list's
 -- parts and of its filter; and membership as a test (Plain's `elem`).
 -- Use: All and Sorted are data types: match on them. `all_map` changes what is said, `all_take`, `all_drop`, `all_append`, `all_filter` go to parts. Assumes nothing.
-use Rattle.std.specs.Prelude.{◌≡◌, List, [], ◌∷◌, ◌++◌, map, Bool, not, ◌&&◌, ◌||◌, cond, ℕ, zero, suc, ◌≤◌, ◌<◌, length, take, drop, get_or, eqb}
+use Rattle.std.specs.Prelude.{◌≡◌, List, [], ◌∷◌, ◌++◌, Bool, not, ◌&&◌, cond, ℕ, zero, suc, ◌≤◌, ◌<◌, length, take, drop, get_or, eqb}
 use Rattle.std.proofs.Math.Path.{refl}
-use Rattle.std.proofs.Common.{sym, ap, subst, arith, T_not, eqb→eq}
+use Rattle.std.proofs.Common.{sym, subst, arith, T_not, eqb→eq}
 use Rattle.std.proofs.Math.Bool.{true, false}
 use Rattle.std.proofs.Math.Dec.{T, not_T, eqb_refl}
-use Rattle.lists.specs.Plain.{filter, any, elem, last}
+use Rattle.lists.specs.Plain.{filter, any, elem}
 use Rattle.lists.specs.Tests.{both, or_in, or_more, neither}
 
 module _ {A : Type 0} where

@@ -1,8 +1,8 @@
 -- The two halves of a list (Plain's `half`, `first_half`, `second_half`), the last key of the first half, and how many keys of a sorted list lie on
 -- either side of the key at a place.
 -- Use: `half_bounds` for sizes; `below_last`, `above_first` for what a split at the last key of the first half parts; `place_below`, `place_above` for a median. Assumes nothing.
-use Rattle.std.specs.Prelude.{◌≡◌, refl, List, [], ◌∷◌, ◌++◌, map, Bool, not, length, take, drop, get_or, T}
-use Rattle.std.proofs.Common.{sym, ap, ◌∙◌, arith, length-append, length-take, length-drop, take-append-drop, take_all, take_at, drop_at}
+use Rattle.std.specs.Prelude.{◌≡◌, List, ◌++◌, map, Bool, not, length, take, drop, get_or, T}
+use Rattle.std.proofs.Common.{ap, ◌∙◌, arith, length-append, length-take, length-drop, take-append-drop, take_all, take_at, drop_at}
 use Prim.Native.Nat.{ℕ, zero, suc, ◌+◌, ◌-◌, ◌*◌, ◌/◌, ◌≤◌, ◌<◌}
 use Rattle.lists.specs.Plain.{half, first_half, second_half, last, count}
 use Rattle.lists.specs.Tests.{yes_not}

@@ -6,7 +6,7 @@ use Rattle.std.proofs.Common.{sym, ap, ◌∙◌, subst, le_trans, arith, T_not,
 use Rattle.std.specs.Int.Signed.{le_z, lt_z}
 use Rattle.std.proofs.Math.Dec.{not_T, nleb→lt}
 use Rattle.lists.specs.Plain.{same, by, by_greatest}
-use Rattle.lists.specs.Tests.{fst_of, snd_of, not_twice, agree, yes_not, not_not}
+use Rattle.lists.specs.Tests.{fst_of, snd_of, not_twice, agree}
 
 -- on the values of which P holds: `le` is transitive and total
 pub record OrderOn {K : Type 0} (P : K → Type 0) (le : K → K → Bool) : Type 0 where

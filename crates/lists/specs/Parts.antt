@@ -1,15 +1,15 @@
 -- A part of a list, `win`, and a list with a part replaced, `put`: what a lent part of a slice is, and what a function that writes leaves behind.
 -- Use: contracts of writing functions say `now s.exit ≡ put a NEW (now s.entry)`; side conditions are `omega (arith, lengths..)`; `lent` turns what the borrow checker
 -- gives for `&mut s[a..e]` into `put`; a loop's invariant is "what is still due, put at its place, is the whole" (`put_step`, `put_nil`). Assumes nothing.
-use Rattle.std.specs.Prelude.{◌≡◌, refl, get_or}
+use Rattle.std.specs.Prelude.{◌≡◌, get_or}
 use Rattle.std.proofs.Math.Path.{sym, ap}
-use Rattle.std.proofs.Common.{◌∙◌, add-one, take-append-drop, drop_of_length-le, take_at, drop_at, drop-cons, take-suc, drop-drop, take-take, take-suc-set, drop-set-lt}
+use Rattle.std.proofs.Common.{◌∙◌, add-one, take-append-drop, drop_of_length-le, take_at, drop_at, drop-cons, take-suc, drop-drop, take-suc-set, drop-set-lt}
 use mathlib.Core.List.{List, [], ◌∷◌, ◌++◌, append_assoc, append-nil}
 use Prim.Native.Nat.{ℕ, suc, ◌+◌, ◌-◌, ◌≤◌, ◌<◌}
 use Rattle.std.proofs.Math.Nat.{add-zero}
 use native.Mathlib.Omega.{arith}
 use Rattle.std.proofs.Math.ListN.{length, take, drop, set, length-append, length-take, length-drop, get_or-append}
-use Rattle.std.proofs.Math.Seq.{length-take-le, take_all, take-append_seam, drop-append_seam, take-append-le, drop-append-add, append_snoc, set_at, set_split, take-add, get_or-take}
+use Rattle.std.proofs.Math.Seq.{length-take-le, take_all, take-append_seam, drop-append_seam, take-append-le, drop-append-add, set_at, set_split, take-add, get_or-take}
 use Rattle.std.proofs.lemmas.List.{drop-append-le}
 use borrow.Rule.Slice.PartMut.{put_mid}
 

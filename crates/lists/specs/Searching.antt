@@ -1,11 +1,11 @@
 -- The search by halving for the first place at which a test holds that stays true once it is: what it finds, and that it looks at no more places than
 -- the distance has binary digits.
 -- Use: `found f 0 n` with f = n; `found_at_is` for its result, `found_first` where it goes over a list, `looks_le` for the count of looks. Assumes nothing.
-use Rattle.std.specs.Prelude.{◌≡◌, ◌≢◌, Bool, cond, List, [], ◌∷◌, length, take, drop, get_or, eqb}
+use Rattle.std.specs.Prelude.{◌≡◌, ◌≢◌, Bool, cond, List, ◌∷◌, length, take, drop, get_or, eqb}
 use Rattle.std.proofs.Math.Path.{refl}
-use Rattle.std.proofs.Common.{sym, ap, subst, lt_of_not-le, length-take, length-drop, get_or-take, get_or-drop, T_not}
+use Rattle.std.proofs.Common.{subst, lt_of_not-le, length-take, length-drop, get_or-take, get_or-drop, T_not}
 use Rattle.std.proofs.Math.Bool.{true, false, not}
-use Prim.Native.Nat.{ℕ, zero, suc, ◌+◌, ◌-◌, ◌*◌, ◌/◌, ◌^◌, ◌≤◌, ◌<◌}
+use Prim.Native.Nat.{ℕ, zero, suc, ◌+◌, ◌-◌, ◌/◌, ◌^◌, ◌≤◌, ◌<◌}
 use Rattle.std.proofs.Math.Nat.{two-pow-succ}
 use native.Mathlib.Omega.{arith}
 use Rattle.std.proofs.Math.Dec.{T, eqb→eq, eqb_refl}

@@ -1,7 +1,7 @@
 -- Examples as rows of a table: what a row says, a test of it that antt computes, and that a table whose rows all pass says true things.
 -- Meaning is in `Says` alone; the rest is proof.
-use Rattle.std.specs.Prelude.{◌≡◌, refl, Bool, true, false, ◌&&◌, cond, List, [], ◌∷◌, map, ℕ, T, eqb, ℤ, pos, negsuc, neg_ℤ, get_or, replicate}
-use Rattle.std.proofs.Common.{ap, ap₂, eqb→eq}
+use Rattle.std.specs.Prelude.{◌≡◌, refl, Bool, true, false, ◌&&◌, cond, List, [], ◌∷◌, map, ℕ, T, eqb, ℤ, pos, neg_ℤ, get_or, replicate}
+use Rattle.std.proofs.Common.{ap₂, eqb→eq}
 use Prim.Native.String.{String}
 use Rattle.lists.specs.Plain.{same}
 use Rattle.lists.specs.Tests.{fst_of, snd_of}

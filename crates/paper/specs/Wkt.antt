@@ -1,6 +1,6 @@
 -- Request E3: tables as well-known text (WKT, OGC 06-103r4), as far as the request goes. A text is a list of bytes. It is accepted, with its segments, where it spells
 -- their tokens; a reading is refused where it is not, with the place after which no accepted text can follow. A writer has one spelling.
-use Rattle.std.specs.Prelude.{◌≡◌, Bool, true, cond, ◌&&◌, List, [], ◌∷◌, ◌++◌, map, ℕ, suc, ◌-◌, ◌*◌, ◌≤◌, ◌<◌, leb, ℤ, pos, neg_ℤ, length, take, drop, replicate}
+use Rattle.std.specs.Prelude.{◌≡◌, true, cond, ◌&&◌, List, [], ◌∷◌, ◌++◌, map, ℕ, suc, ◌-◌, ◌*◌, ◌≤◌, ◌<◌, leb, ℤ, pos, neg_ℤ, length, take, drop, replicate}
 use Rattle.lists.specs.Plain.{to_nat}
 use Rattle.paper.specs.Descriptor.{segments_of}
 use Rattle.paper.specs.Answers.{Answer, bad_kind, bad_lower, bad_extent, bad_strides, bad_cells, bad_coordinate, bad_buffer, judged, refused, done}

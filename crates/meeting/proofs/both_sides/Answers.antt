@@ -1,16 +1,15 @@
 -- What the check leaves of `both_sides`.
 use mathlib.Core.Path.{◌≡◌, sym, ap, ap₂, ◌∙◌}
 use mathlib.Core.Bool.{Bool, ◌&&◌, ◌||◌}
-use Prim.Native.Nat.{ℕ, ◌≤◌, ◌-◌}
+use Prim.Native.Nat.{ℕ}
 use native.Mathlib.Omega.{arith}
 use lib.IntN.{pos}
 use lib.Signed.{le_z}
 use mir.Syntax.{w64}
 use mir.ValLaws.{to_z-of_z}
-use Rattle.lists.specs.Plain.{any, positions}
 use Rattle.lists.specs.Choosing.{any_zero, any_next}
 use Rattle.paper.specs.Corners.{weight}
-use Rattle.meeting.specs.Bounds.{R, small_back, clean}
+use Rattle.meeting.specs.Bounds.{R, clean}
 use Rattle.meeting.specs.Sides.{weight_at, both_sides}
 use borrow.Author.Rules.{rules}
 use Rattle.meeting.proofs.both_sides.Goals as goal

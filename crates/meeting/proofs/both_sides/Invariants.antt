@@ -1,18 +1,10 @@
 -- The loops of `both_sides`.
-use mathlib.Core.Path.{◌≡◌, sym, ap, ap₂, ◌∙◌}
-use mathlib.Core.Bool.{Bool, ◌&&◌, ◌||◌}
-use Prim.Native.Nat.{ℕ, ◌≤◌, ◌-◌}
-use native.Mathlib.Omega.{arith}
+use mathlib.Core.Path.{◌≡◌}
+use Prim.Native.Nat.{◌≤◌, ◌-◌}
 use lib.IntN.{pos}
 use lib.Signed.{le_z}
-use mir.Syntax.{w64}
-use mir.ValLaws.{to_z-of_z}
 use Rattle.lists.specs.Plain.{any, positions}
-use Rattle.lists.specs.Choosing.{any_zero, any_next}
-use Rattle.paper.specs.Corners.{weight}
-use Rattle.meeting.specs.Bounds.{R, small_back, clean}
-use Rattle.meeting.specs.Sides.{weight_at, both_sides}
-use borrow.Author.Rules.{rules}
+use Rattle.meeting.specs.Sides.{weight_at}
 use Rattle.meeting.proofs.both_sides.Given as goal
 
 abbrev pub invariant-loop-k : goal.invariant-loop-k

@@ -5,7 +5,6 @@ use lib.Signed.{le_z}
 use Rattle.paper.specs.Corners.{overlaps}
 use Rattle.meeting.specs.Bounds.{clean}
 use Rattle.meeting.specs.Gap.{both_gaps}
-use borrow.Author.Rules.{rules}
 use Rattle.meeting.proofs.boxes_overlap.Goals as goal
 
 pub returns : goal.returns

@@ -1,6 +1,5 @@
 -- What the check leaves of `gap`.
-use Rattle.meeting.specs.Gap.{after_fits, before_fits, gap_says}
-use borrow.Author.Rules.{rules}
+use Rattle.meeting.specs.Gap.{gap_says}
 use Rattle.meeting.proofs.gap.Goals as goal
 
 pub returns : goal.returns

@@ -1,14 +1,11 @@
 -- What the check leaves of `table_refusal`.
-use mathlib.Core.Path.{◌≡◌, sym, ap, ◌∙◌}
+use mathlib.Core.Path.{sym, ap, ◌∙◌}
 use native.Mathlib.Omega.{arith}
-use lib.IntN.{pos}
-use lib.ListN.{length}
 use mir.Syntax.{w64}
 use mir.ValLaws.{to_z-of_z}
 use Rattle.paper.specs.Descriptor.{size_of}
 use Rattle.paper.specs.Answers.{bad_cells, refused, done}
 use Rattle.refusals.specs.Orders.{outside_given, by_outside, by_others, outside_at_is}
-use borrow.Author.Rules.{rules}
 use Rattle.refusals.proofs.table_refusal.Goals as goal
 
 pub first_outside-first-requires : goal.first_outside-first-requires

@@ -1,7 +1,7 @@
 -- What the check leaves of `copy`.
 use mathlib.Core.Path.{◌≡◌, refl, sym, ap, ◌∙◌}
 use mathlib.Core.List.{List}
-use Prim.Native.Nat.{ℕ, ◌≤◌, ◌<◌, ◌+◌, ◌-◌}
+use Prim.Native.Nat.{ℕ, ◌<◌, ◌+◌}
 use native.Mathlib.Omega.{arith}
 use lib.IntN.{ℤ, pos}
 use lib.ListN.{length, take, set, get_or, length-set}
@@ -9,7 +9,6 @@ use lib.Seq.{take-suc, length-take-le}
 use native.Mathlib.Numerals.{add-one}
 use mir.Syntax.{w32}
 use mir.ValLaws.{to_z-of_z}
-use borrow.Author.Rules.{rules}
 use Rattle.lists.specs.Filling.{filled, filled_none, filled_more}
 use Rattle.rooms.proofs.copy.Invariants.{Copied}
 use Rattle.rooms.proofs.copy.Goals as goal

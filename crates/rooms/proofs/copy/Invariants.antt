@@ -1,16 +1,10 @@
 -- The loops of `copy`.
-use mathlib.Core.Path.{◌≡◌, refl, sym, ap, ◌∙◌}
+use mathlib.Core.Path.{◌≡◌}
 use mathlib.Core.List.{List}
-use Prim.Native.Nat.{ℕ, ◌≤◌, ◌<◌, ◌+◌, ◌-◌}
-use native.Mathlib.Omega.{arith}
-use lib.IntN.{ℤ, pos}
-use lib.ListN.{length, take, set, get_or, length-set}
-use lib.Seq.{take-suc, length-take-le}
-use native.Mathlib.Numerals.{add-one}
-use mir.Syntax.{w32}
-use mir.ValLaws.{to_z-of_z}
-use borrow.Author.Rules.{rules}
-use Rattle.lists.specs.Filling.{filled, filled_none, filled_more}
+use Prim.Native.Nat.{ℕ, ◌≤◌, ◌-◌}
+use lib.IntN.{ℤ}
+use lib.ListN.{length, take}
+use Rattle.lists.specs.Filling.{filled}
 use Rattle.rooms.proofs.copy.Given as goal
 
 abbrev pub Copied : List ℤ → List ℤ → ℕ → List ℤ → Type 0

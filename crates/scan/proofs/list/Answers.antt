@@ -1,17 +1,15 @@
 -- What the check leaves of `list`.
 use mathlib.Core.Path.{◌≡◌, ap, ◌∙◌}
-use Prim.Native.Nat.{◌≤◌, ◌-◌}
 use native.Mathlib.Omega.{arith}
 use lib.ListN.{length}
 use mir.Syntax.{w32}
 use mir.ValLaws.{to_z-of_z}
 use Rattle.paper.specs.Results.{numbers_of}
-use Rattle.lists.specs.Filling.{filled, filled_length}
+use Rattle.lists.specs.Filling.{filled}
 use Rattle.paper.specs.Descriptor.{first_number}
 use Rattle.paper.specs.Corners.{weighed}
 use Rattle.paper.specs.Answers.{far_off}
-use Rattle.scan.specs.Listing.{chosen, listed, all_chosen, length_chosen, count_more, cells_more, none_count, none_cells}
-use borrow.Author.Rules.{rules}
+use Rattle.scan.specs.Listing.{chosen, all_chosen, length_chosen, count_more, cells_more, none_count, none_cells}
 use Rattle.scan.proofs.list.Goals as goal
 
 pub loop-i-init : goal.loop-i-init

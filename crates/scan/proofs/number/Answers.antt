@@ -2,8 +2,7 @@
 use mathlib.Core.Path.{◌∙◌}
 use mir.Syntax.{w32}
 use mir.ValLaws.{to_z-of_z}
-use Rattle.scan.specs.Listing.{sum_fits, sum_is, sum_narrow}
-use borrow.Author.Rules.{rules}
+use Rattle.scan.specs.Listing.{sum_is, sum_narrow}
 use Rattle.scan.proofs.number.Goals as goal
 
 pub narrow-requires : goal.narrow-requires
