@@ -6,20 +6,22 @@ ghost use Rattle.std.specs.Prelude.{◌≡◌, ◌≤◌, length};
 ghost use Rattle.lines.specs.Reading.{Buffers, Sound};
 
 use lines::Reader;
+use std::io::{Read, Stdin, Stdout, Write};
 
 // Writes the first n bytes of the output; whether that went well.
-fn write_out(out: &[u8], n: usize) -> bool {
+fn write_out(mut output: Stdout, out: &[u8], n: usize) -> bool {
     if n == 0 {
         return true;
     }
     if n <= out.len() {
-        return io::write_all(1, &out[..n]);
+        return output.write_all(&out[..n]).is_ok();
     }
     false
 }
 
 // As much of a chunk as the output has room for, handed on, and what it prints written.
 fn pass(
+    output: Stdout,
     chunk: &[u8],
     r: Reader,
     carry: &mut [u8],
@@ -33,7 +35,7 @@ fn pass(
 {
     let x = lines::feed(chunk, r, carry, cells, index, numbers, out);
     let n = x.out;
-    if write_out(out, n) {
+    if write_out(output, out, n) {
         return lines::written(x);
     }
     lines::stopped()
@@ -45,6 +47,7 @@ fn is_read(r: Reader, len: usize) -> bool {
 
 // A chunk, handed on again whenever the output was full; the reader after it. Each turn reads a byte at least, so the turns are enough.
 fn hand_on(
+    output: Stdout,
     chunk: &[u8],
     r: Reader,
     carry: &mut [u8],
@@ -59,7 +62,7 @@ fn hand_on(
     let mut x = r;
     let mut turns = chunk.len();
     while turns > 0 {
-        x = pass(chunk, x, carry, cells, index, numbers, out);
+        x = pass(output, chunk, x, carry, cells, index, numbers, out);
         if is_read(x, chunk.len()) {
             return x;
         }
@@ -70,6 +73,7 @@ fn hand_on(
 
 // The end of the input: the last line, if its line feed is missing.
 fn end(
+    output: Stdout,
     r: Reader,
     carry: &mut [u8],
     cells: &mut [i32],
@@ -85,12 +89,14 @@ fn end(
     }
     let y = lines::finish(r, carry, cells, index, numbers, out);
     let n = y.out;
-    write_out(out, n);
+    write_out(output, out, n);
     lines::stopped()
 }
 
 // Reads once, and hands on what came.
 fn turn(
+    mut input: Stdin,
+    output: Stdout,
     r: Reader,
     carry: &mut [u8],
     cells: &mut [i32],
@@ -101,27 +107,35 @@ fn turn(
     requires { Buffers cells.old index.old numbers.old carry.old × Sound r cells.old index.old carry.old × (r.out ≡ 0) × (length out.old ≡ 65536) }
     ensures { Sound result cells.new index.new carry.new × (result.out ≡ 0) }
 {
-    let mut buffer = io::large_buffer();
-    let got = libc::read(0, &mut buffer);
-    if got < 0 {
-        return lines::stopped();
+    let mut buffer = [0u8; 65536];
+    match input.read(&mut buffer) {
+        Err(_) => lines::stopped(),
+        Ok(n) => {
+            if n == 0 {
+                return end(output, r, carry, cells, index, numbers, out);
+            }
+            let x = lines::next_chunk(r);
+            hand_on(output, &buffer[..n], x, carry, cells, index, numbers, out)
+        }
     }
-    if got == 0 {
-        return end(r, carry, cells, index, numbers, out);
-    }
-    let n = io::count(got, &buffer);
-    let x = lines::next_chunk(r);
-    hand_on(&buffer[..n], x, carry, cells, index, numbers, out)
 }
 
 // Nothing says that the input ends, so the turns are counted down from a number that no run uses up.
-fn run(carry: &mut [u8], cells: &mut [i32], index: &mut [i32], numbers: &mut [i32], out: &mut [u8])
+fn run(
+    input: Stdin,
+    output: Stdout,
+    carry: &mut [u8],
+    cells: &mut [i32],
+    index: &mut [i32],
+    numbers: &mut [i32],
+    out: &mut [u8],
+)
     requires { Buffers cells.old index.old numbers.old carry.old × (length out.old ≡ 65536) }
 {
     let mut r = lines::start();
     let mut turns = u64::MAX;
     while turns > 0 {
-        r = turn(r, carry, cells, index, numbers, out);
+        r = turn(input, output, r, carry, cells, index, numbers, out);
         if r.ended {
             return;
         }
@@ -129,11 +143,19 @@ fn run(carry: &mut [u8], cells: &mut [i32], index: &mut [i32], numbers: &mut [i3
     }
 }
 
-fn main() {
+fn main(rt: HostRuntime) {
     let mut carry = [0u8; 80];
     let mut cells = [0i32; 1024];
     let mut index = [0i32; 7684];
     let mut numbers = [0i32; 256];
-    let mut out = io::large_buffer();
-    run(&mut carry, &mut cells, &mut index, &mut numbers, &mut out);
+    let mut out = [0u8; 65536];
+    run(
+        rt.stdin(),
+        rt.stdout(),
+        &mut carry,
+        &mut cells,
+        &mut index,
+        &mut numbers,
+        &mut out,
+    );
 }

@@ -9,6 +9,7 @@ ghost use Rattle.wkt.specs.Bounds.{Fewer};
 
 use fields::Line;
 use paper::{Descriptor, Segment};
+use std::io::{Read, Stdin, Stdout, Write};
 
 // What a line does: the number of its fault, or how many segments there are after it.
 #[derive(Clone, Copy)]
@@ -26,20 +27,20 @@ fn least(a: usize, b: usize) -> usize
     b
 }
 
-fn print(bytes: &[u8], n: usize) {
+fn print(mut output: Stdout, bytes: &[u8], n: usize) {
     let m = least(n, bytes.len());
-    io::write_all(1, &bytes[..m]);
+    let _ = output.write_all(&bytes[..m]);
 }
 
-fn print_fault(number: usize, place: usize) {
+fn print_fault(output: Stdout, number: usize, place: usize) {
     let mut line = [0u8; 64];
     let end = texts::put_fault(&mut line, 0, number, place);
-    print(&line, end);
+    print(output, &line, end);
 }
 
 // ---- a text into lines
 
-fn print_segment(cells: &[i32], i: usize)
+fn print_segment(output: Stdout, cells: &[i32], i: usize)
     requires { (i < 4096) × (length cells.now ≡ 16384) }
 {
     let first = 4 * i;
@@ -47,32 +48,32 @@ fn print_segment(cells: &[i32], i: usize)
     let mut line = [0u8; 128];
     line[0] = b'S';
     let k = texts::put_tabbed(&mut line, 1, &cells[first..end], 4);
-    print(&line, k);
+    print(output, &line, k);
 }
 
 // A table whose numbers count from 1.
-fn print_table(cells: &[i32], n: usize)
+fn print_table(output: Stdout, cells: &[i32], n: usize)
     requires { (n ≤ 4096) × (length cells.now ≡ 16384) }
 {
-    print(b"T\t1\t1\n", 6);
+    print(output, b"T\t1\t1\n", 6);
     let mut i = 0;
     while i < n {
-        print_segment(cells, i);
+        print_segment(output, cells, i);
         i += 1;
     }
 }
 
-fn from_text(text: &[u8], cells: &mut [i32])
+fn from_text(output: Stdout, text: &[u8], cells: &mut [i32])
     requires { length cells.old ≡ 16384 }
 {
     let reply = wkt_table::read(text, cells);
     let number = texts::size(reply.number);
     if number != 0 {
-        print_fault(number, texts::size(reply.position));
+        print_fault(output, number, texts::size(reply.position));
         return;
     }
     let n = least(texts::size(reply.count), 4096);
-    print_table(cells, n);
+    print_table(output, cells, n);
 }
 
 // ---- lines into a text
@@ -135,18 +136,18 @@ fn line_taken(text: &[u8], line: usize, cells: &mut [i32], n: usize) -> Taken
     added(read, cells, n)
 }
 
-fn print_text(cells: &[i32], n: usize)
+fn print_text(output: Stdout, cells: &[i32], n: usize)
     requires { n ≤ 4096 }
 {
     let mut out = [0u8; 196630];
     let reply = wkt_table::write(cells, described(1, 0, whole::count(n)), &mut out);
     let end = least(texts::size(reply.count), 196629);
     out[end] = b'\n';
-    print(&out, end + 1);
+    print(output, &out, end + 1);
 }
 
 // All lines, one after another; the table as a text after the last.
-fn from_lines(text: &[u8], cells: &mut [i32])
+fn from_lines(output: Stdout, text: &[u8], cells: &mut [i32])
     requires { length cells.old ≡ 16384 }
 {
     let mut at = 0;
@@ -157,7 +158,7 @@ fn from_lines(text: &[u8], cells: &mut [i32])
         let taken = line_taken(&text[at..end], line, cells, n);
         match taken {
             Taken::Fault(number) => {
-                print_fault(number, line);
+                print_fault(output, number, line);
                 return;
             }
             Taken::Next(m) => {
@@ -167,7 +168,7 @@ fn from_lines(text: &[u8], cells: &mut [i32])
         line += 1;
         at = end + 1;
     }
-    print_text(cells, n);
+    print_text(output, cells, n);
 }
 
 // ---- the input
@@ -186,28 +187,50 @@ fn without_last(text: &[u8]) -> usize
     n
 }
 
-fn turn(text: &[u8], cells: &mut [i32])
+fn turn(output: Stdout, text: &[u8], cells: &mut [i32])
     requires { length cells.old ≡ 16384 }
 {
     if text.len() == 0 {
-        from_text(text, cells);
+        from_text(output, text, cells);
         return;
     }
     if text[0] == b'T' {
-        from_lines(text, cells);
+        from_lines(output, text, cells);
         return;
     }
     let n = without_last(text);
-    from_text(&text[..n], cells);
+    from_text(output, &text[..n], cells);
 }
 
-fn main() {
+// Reads until the buffer is full or the input ends; how many bytes were read. A reading error ends it as the input's end does.
+fn read_full(mut input: Stdin, buffer: &mut [u8]) -> usize
+    ensures { (result ≤ length buffer.new) × (length buffer.new ≡ length buffer.old) }
+{
+    let mut at = 0;
+    while at < buffer.len() {
+        match input.read(&mut buffer[at..]) {
+            Err(_) => {
+                return at;
+            }
+            Ok(n) => {
+                if n == 0 {
+                    return at;
+                }
+                at += n;
+            }
+        }
+    }
+    at
+}
+
+fn main(rt: HostRuntime) {
+    let output = rt.stdout();
     let mut cells = [0i32; 16384];
     let mut input = [0u8; 198000];
-    let n = io::read_full(0, &mut input);
+    let n = read_full(rt.stdin(), &mut input);
     if n == 198000 {
-        print_fault(7, 0);
+        print_fault(output, 7, 0);
         return;
     }
-    turn(&input[..n], &mut cells);
+    turn(output, &input[..n], &mut cells);
 }
