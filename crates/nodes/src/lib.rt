@@ -55,7 +55,7 @@ fn ends_of(words: &[i32], n: usize, window: Window, size: usize, z: usize) -> En
 }
 
 // Left p of a node: the count at slot p, or the left size where p is the node's size; more than p where the word is spoiled.
-fn count_at_is(words: &[i32], n: usize, size: usize, p: usize, at: usize) -> usize
+fn count_at(words: &[i32], n: usize, size: usize, p: usize, at: usize) -> usize
     requires p_le_size { p ≤ size }
     requires size_in_bounds { at + n + size ≤ length words.now }
     ensures { Counted words.now n size p at result }
@@ -120,7 +120,7 @@ fn one_node(
             left: 0,
         },
         Ends::Across => {
-            let count = count_at_is(words, index.n, size, p, at);
+            let count = count_at(words, index.n, size, p, at);
             if p < count {
                 return Turn {
                     tally: stop(seen),

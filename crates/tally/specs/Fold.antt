@@ -1,7 +1,7 @@
 -- The events' outcome in `paper` (positions in order, and visits) beside what the code keeps: `Stands-after`.
-use Rattle.std.specs.Prelude.{◌≡◌, Bool, true, false, cond, ℕ, ◌+◌, ◌≤◌, ◌<◌, ltb, eqb, length, drop, set, ℤ, pos}
+use Rattle.std.specs.Prelude.{◌≡◌, Bool, true, false, cond, ℕ, ◌+◌, ◌≤◌, ◌<◌, ltb, eqb, length, drop, set, ℤ}
 use Rattle.std.proofs.Math.Path.{refl, subst}
-use Rattle.std.proofs.Common.{sym, ap, ◌∙◌, arith, length-append, ltb-true, ltb-false, ne_eqb}
+use Rattle.std.proofs.Common.{sym, ap, ◌∙◌, arith, length-append, ltb-true, ne_eqb}
 use mathlib.Core.List.{List, [], ◌∷◌, ◌++◌, map-append}
 use Rattle.std.proofs.lemmas.List.{length-map}
 use Rattle.lists.specs.Filling.{filled, filled_none, filled_more}

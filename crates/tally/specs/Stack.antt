@@ -1,6 +1,6 @@
 -- What a walk has still to do, kept on a stack of d entries: the events of each, the last entry first, and the sum of their sizes.
 use Rattle.std.specs.Prelude.{◌≡◌, refl, Bool, true, false, List, [], ◌++◌, ℕ, zero, suc, ◌+◌, ◌<◌, ltb}
-use Rattle.std.proofs.Common.{sym, ap, ap₂, ◌∙◌, subst, arith, ltb-true, ltb-false}
+use Rattle.std.proofs.Common.{ap₂, subst, arith, ltb-true, ltb-false}
 use Rattle.paper.specs.Walk.{Event}
 
 unfoldable pub pending : (ℕ → List Event) → ℕ → List Event
