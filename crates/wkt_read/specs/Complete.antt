@@ -1,13 +1,13 @@
 -- What `paper` accepts the automaton reads to its end, with the coordinates in their order; so a text has one list of segments at most.
-use Rattle.std.specs.Prelude.{◌≡◌, Bool, true, false, cond, eqb, ℤ, pos, neg_ℤ, length, get_or}
+use Rattle.std.specs.Prelude.{◌≡◌, Bool, true, false, cond, eqb, ℤ, length, get_or}
 use Rattle.std.proofs.Math.Path.{refl, ap}
-use Rattle.std.proofs.Common.{sym, ap₂, ◌∙◌, subst, arith, add-one, eq-eqb, ne_eqb}
+use Rattle.std.proofs.Common.{sym, ap₂, ◌∙◌, arith, add-one, eq-eqb, ne_eqb}
 use mathlib.Core.List.{List, [], ◌∷◌, ◌++◌, map, append_assoc, append-nil}
-use Prim.Native.Nat.{ℕ, zero, suc, ◌+◌, ◌-◌, ◌*◌, ◌≤◌, ◌<◌}
+use Prim.Native.Nat.{ℕ, zero, suc, ◌+◌, ◌-◌, ◌*◌, ◌<◌}
 use Rattle.std.proofs.Math.ListN.{drop, drop_of_length-le}
 use Rattle.std.proofs.Math.Seq.{drop-cons}
-use Rattle.paper.specs.Lines.{is_digit, digit0, minus, value_from, bytes}
-use Rattle.paper.specs.Wkt.{space, opening, closing, plus, comma, capital, Token, word, number, mark, line_tokens, further_tokens, body_tokens, tokens_of, Digits, one, more, Spells, either_case, unsigned, positive, negative, itself, Kind, aWord, a_number, aMark, kind_of, parting, spaces, Spelled, end, then, Accepted, coordinates_of}
+use Rattle.paper.specs.Lines.{is_digit, digit0, value_from, bytes}
+use Rattle.paper.specs.Wkt.{space, opening, closing, comma, capital, Token, word, number, mark, line_tokens, further_tokens, Digits, one, more, Spells, either_case, unsigned, positive, negative, itself, Kind, aWord, a_number, aMark, spaces, Spelled, end, then, Accepted, coordinates_of}
 use Rattle.paper.specs.declared.Segment.{Segment}
 use Rattle.wkt_read.specs.declared.automaton.State.{State}
 use Rattle.wkt_read.specs.declared.automaton.State.TheVariants.{Start, Name, Named, Body, Empty, Line, Due, Signed, Number, After, More, End, Failed}

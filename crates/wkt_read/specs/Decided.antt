@@ -1,15 +1,14 @@
 -- The automaton fails exactly where no accepted text can follow; so the place of a refusal is where it fails, and any two results of a reading are equal.
-use Rattle.std.specs.Prelude.{◌≡◌, refl, Bool, true, false, not, cond, List, [], ◌∷◌, ◌++◌, map, ℕ, zero, suc, ◌+◌, ◌-◌, ◌≤◌, ◌<◌, T, ℤ, length, take, drop}
-use Rattle.std.proofs.Common.{sym, ap, ap₂, ◌∙◌, subst, ⊎_elim, eq-or-lt_of_le, arith, take-append-drop, take-take, take_all}
-use Rattle.lists.specs.Tests.{by_test, clash, holds, fails}
+use Rattle.std.specs.Prelude.{◌≡◌, refl, Bool, true, false, List, [], ◌∷◌, ◌++◌, ℕ, zero, suc, ◌-◌, ◌≤◌, ◌<◌, T, ℤ, length, take, drop}
+use Rattle.std.proofs.Common.{sym, ap, ◌∙◌, subst, arith, take-append-drop, take-take}
+use Rattle.lists.specs.Tests.{by_test, clash}
 use Rattle.lists.specs.Maps.{map_drop}
 use Rattle.paper.specs.Answers.{judged, refused, done}
 use Rattle.paper.specs.Results.{Result, over}
-use Rattle.paper.specs.Wkt.{space, opening, closing, comma, capital, Accepted, Dead, Place, bad_text, coordinates_of, reader_order, Read, refuses, accepts}
-use Rattle.paper.specs.declared.Segment.{Segment}
+use Rattle.paper.specs.Wkt.{space, opening, closing, comma, capital, Dead, Place, bad_text, coordinates_of, reader_order, Read, refuses, accepts}
 use Rattle.wkt_read.specs.declared.automaton.State.{State}
 use Rattle.wkt_read.specs.declared.automaton.State.TheVariants.{Start, Name, Named, Body, Empty, Line, Due, Signed, Number, After, More, End, Failed}
-use Rattle.wkt_read.specs.Machine.{name, empty, step_state, in_number, ended, failed, Reading, to, step, run, at, start, run_append}
+use Rattle.wkt_read.specs.Machine.{name, empty, step_state, ended, failed, Reading, to, step, run, at, start, run_append}
 use Rattle.wkt_read.specs.Complete.{rest_of_name, rest_of_empty, accepted_run, accepted_once}
 use Rattle.wkt_read.specs.Sound.{Bound, Shape, loose, signed, counted, shape_run, shape_start, run_accepted}
 

@@ -1,10 +1,10 @@
 -- The reading's result as a function that antt computes, for examples: what the automaton says is what `paper` allows.
-use Rattle.std.specs.Prelude.{◌≡◌, refl, Bool, true, false, cond, List, [], ◌∷◌, ℕ, zero, suc, ◌≤◌, ◌<◌, ℤ, length, take}
+use Rattle.std.specs.Prelude.{◌≡◌, refl, Bool, true, false, cond, List, [], ◌∷◌, ℕ, suc, ◌≤◌, ◌<◌, ℤ, length, take}
 use Rattle.std.proofs.Common.{sym, ap, ◌∙◌, subst, arith}
 use Rattle.lists.specs.Tests.{by_test, holds}
 use Rattle.paper.specs.Answers.{judged, refused, done}
 use Rattle.paper.specs.Results.{Result, over}
-use Rattle.paper.specs.Wkt.{Place, bad_text, coordinates_of, reader_order, Read, refuses, accepts}
+use Rattle.paper.specs.Wkt.{bad_text, coordinates_of, reader_order, Read, refuses, accepts}
 use Rattle.paper.specs.declared.Segment.{Segment}
 use Rattle.wkt_read.specs.Machine.{ended, failed, Reading, step, run, start}
 use Rattle.wkt_read.specs.Sound.{run_accepted}

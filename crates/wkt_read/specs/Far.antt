@@ -1,6 +1,6 @@
 -- The first segment with a coordinate beyond the limits, by the count of coordinates before the first such.
-use Rattle.std.specs.Prelude.{◌≡◌, refl, Bool, true, false, not, cond, ◌&&◌, List, [], ◌∷◌, ℕ, zero, suc, ◌+◌, ◌*◌, ◌/◌, ◌≤◌, ◌<◌, ℤ, length}
-use Rattle.std.proofs.Common.{sym, ap, ap₂, ◌∙◌, subst, arith}
+use Rattle.std.specs.Prelude.{◌≡◌, refl, Bool, true, false, not, cond, ◌&&◌, List, [], ◌∷◌, ℕ, zero, suc, ◌*◌, ◌/◌, ◌<◌, length}
+use Rattle.std.proofs.Common.{sym, subst, arith}
 use Rattle.lists.specs.Choosing.{First}
 use Rattle.paper.specs.Limits.{coordinate_fits}
 use Rattle.paper.specs.Answers.{far_off}

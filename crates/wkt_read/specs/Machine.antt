@@ -1,7 +1,6 @@
 -- The automaton: a state for each token that can be due and for each part of one that can have been read; the numbers read so far beside it.
 -- Use: `run start text` is what a text comes to. Assumes nothing.
 use Rattle.std.specs.Prelude.{◌≡◌, refl, Bool, true, false, cond, ◌&&◌, ◌||◌, List, [], ◌∷◌, ◌++◌, ℕ, ◌+◌, ◌-◌, ◌*◌, eqb, ℤ, pos, neg_ℤ, get_or}
-use Rattle.std.proofs.Common.{ap}
 use Rattle.paper.specs.Lines.{is_digit, digit0, minus}
 use Rattle.paper.specs.Wkt.{space, opening, closing, plus, comma, capital}
 use Rattle.wkt_read.specs.declared.automaton.State.{State}

@@ -1,6 +1,6 @@
 -- What a pass over a text keeps true: it is judged, and where cells are filled its numbers are written into them.
 use Rattle.std.specs.Prelude.{◌≡◌, refl, Bool, true, false, ◌&&◌, List, [], ◌∷◌, ◌++◌, map, ℕ, suc, ◌+◌, ◌≤◌, ◌<◌, eqb, ℤ, length, take, drop, get_or, set}
-use Rattle.std.proofs.Common.{sym, ap, ap₂, ◌∙◌, arith, add-one, length-append, take-append-drop, take-suc, take_all, length-take-le, eqb-true}
+use Rattle.std.proofs.Common.{sym, ap, ap₂, ◌∙◌, arith, add-one, length-append, take-append-drop, take-suc, take_all, eqb-true}
 use Rattle.std.proofs.Math.Path.{subst}
 use Rattle.std.proofs.lemmas.List.{map-append, length-map}
 use Rattle.std.proofs.Math.ListN.{length-take}
@@ -13,10 +13,10 @@ use Rattle.wkt_read.specs.declared.automaton.State.TheVariants.{Start}
 use Rattle.wkt_read.specs.declared.Reader.{Reader}
 use Rattle.wkt_read.specs.declared.Tally.{Tally}
 use Rattle.wkt_read.specs.declared.Judged.{Judged}
-use Rattle.wkt_read.specs.Machine.{sort_of, in_number, step_state, ended, failed, Reading, signed_value, step, run, start, run_append, run_snoc}
+use Rattle.wkt_read.specs.Machine.{sort_of, step_state, ended, failed, Reading, signed_value, step, run, start, run_append, run_snoc}
 use Rattle.wkt_read.specs.Sound.{Bound, Shape, loose, signed, counted as inside, shape_run, shape_start}
 use Rattle.wkt_read.specs.Decided.{state_step, failed_more, place_at}
-use Rattle.wkt_read.specs.Tally.{clip, shown, read_on, shown_step, ends_number, fitting_of, fitting_le, counted, tally_of, tally_step, ends_yes, ends_no, run_grows, clipped, clipped_signed}
+use Rattle.wkt_read.specs.Tally.{shown, read_on, shown_step, ends_number, fitting_of, fitting_le, counted, tally_of, tally_step, ends_yes, ends_no, run_grows, clipped, clipped_signed}
 
 -- what a judged text says
 pub record IsJudged (text : List ℕ) (j : Judged) : Type 0 where

@@ -6,7 +6,7 @@ use Rattle.std.proofs.lemmas.Bool.{eqb-false}
 use Rattle.lists.specs.Tests.{by_test}
 use Rattle.lists.specs.Every.{All}
 use Rattle.paper.specs.Lines.{is_digit, digit0, minus, value_from, bytes}
-use Rattle.paper.specs.Wkt.{space, opening, closing, plus, comma, capital, Token, word, number, mark, further_tokens, tokens_of, Digits, one, more, Spells, either_case, unsigned, positive, negative, itself, Kind, aWord, a_number, aMark, kind_of, parting, spaces, Spelled, end, then, Accepted, coordinates_of}
+use Rattle.paper.specs.Wkt.{space, opening, closing, plus, comma, capital, Token, word, number, mark, further_tokens, tokens_of, Digits, one, more, Spells, either_case, unsigned, positive, negative, itself, Kind, aWord, a_number, aMark, kind_of, parting, Spelled, end, then, Accepted, coordinates_of}
 use Rattle.paper.specs.declared.Segment.{Segment}
 use Rattle.wkt_read.specs.declared.automaton.State.{State}
 use Rattle.wkt_read.specs.declared.automaton.State.TheVariants.{Start, Name, Named, Body, Empty, Line, Due, Signed, Number, After, More, End, Failed}

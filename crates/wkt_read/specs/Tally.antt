@@ -1,30 +1,21 @@
 -- What the code keeps of a reading: values clipped one above the limits, the count of numbers, and of those before the first beyond the limits.
 -- Use: `shown_step` and `tally_step` for a loop over the bytes; `fitting-far` and `clipped_all` say that clipping changes no answer. Assumes nothing.
-use Rattle.std.specs.Prelude.{◌≡◌, refl, Bool, true, false, not, cond, ◌&&◌, List, [], ◌∷◌, ◌++◌, map, ℕ, zero, suc, ◌+◌, ◌-◌, ◌*◌, ◌/◌, ◌≤◌, ◌<◌, min, ◌^◌, T, eqb, leb, ℤ, pos, negsuc, neg_ℤ, ◌-ℤ◌, length, take, drop, get_or}
-use Rattle.std.proofs.Common.{sym, ap, ap₂, ◌∙◌, subst, arith, add-one, length-append, take-suc, eq-eqb, ne_eqb, leb-true, leb-false, le-leb}
-use Rattle.std.proofs.lemmas.List.{map-append}
+use Rattle.std.specs.Prelude.{◌≡◌, refl, Bool, true, false, not, cond, ◌&&◌, List, [], ◌∷◌, ◌++◌, map, ℕ, zero, suc, ◌+◌, ◌-◌, ◌*◌, ◌≤◌, ◌<◌, min, ◌^◌, eqb, leb, ℤ, pos, negsuc, neg_ℤ, ◌-ℤ◌, length}
+use Rattle.std.proofs.Common.{sym, ap, ap₂, ◌∙◌, arith, length-append, ne_eqb, leb-true, leb-false, le-leb}
 use Rattle.std.proofs.Math.Dec.{eqb-suc-suc}
 use Rattle.std.specs.Int.{Width}
 use mir.Val.{SFits, hbits}
 use Rattle.whole.specs.Whole.{whole, #, ◌⊖◌, ⊝, of}
-use Rattle.std.specs.Int.Signed.{le_z}
 use Rattle.std.proofs.lemmas.Bool.{lt-leb}
-use Rattle.lists.specs.Plain.{within}
-use Rattle.lists.specs.Tests.{by_test, clash, is_true}
-use Rattle.lists.specs.Choosing.{First}
+use Rattle.lists.specs.Tests.{by_test, clash}
 use Rattle.paper.specs.Limits.{coordinate_fits}
 use Rattle.paper.specs.Lines.{is_digit, digit0, minus}
-use Rattle.paper.specs.Answers.{far_off}
-use Rattle.paper.specs.Descriptor.{at as segmentAt}
-use Rattle.paper.specs.Wkt.{space, Place, coordinates_of}
-use Rattle.paper.specs.declared.Segment.{Segment}
+use Rattle.paper.specs.Wkt.{space}
 use Rattle.wkt_read.specs.declared.automaton.State.{State}
 use Rattle.wkt_read.specs.declared.automaton.State.TheVariants.{Start, Name, Named, Body, Empty, Line, Due, Signed, Number, After, More, End, Failed}
 use Rattle.wkt_read.specs.declared.Reader.{Reader}
 use Rattle.wkt_read.specs.declared.Tally.{Tally}
-use Rattle.wkt_read.specs.declared.Judged.{Judged}
-use Rattle.wkt_read.specs.Machine.{is_sign, onward, mark_after, past_mark, step_state, digit_place, is_signed, in_number, ended, failed, Reading, signed_value, finished, to, step, run, at, start, run_snoc, run_append}
-use Rattle.wkt_read.specs.Sound.{Bound, Shape, loose, signed, counted as inside, shape_run, shape_start}
+use Rattle.wkt_read.specs.Machine.{is_sign, onward, mark_after, past_mark, step_state, digit_place, is_signed, in_number, Reading, signed_value, finished, step, run}
 
 -- ---- values
 abbrev pub clip : ℕ → ℕ

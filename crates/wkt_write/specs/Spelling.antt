@@ -1,6 +1,6 @@
 -- The one spelling, line by line: its length, and what is still due from the i-th line on.
-use Rattle.std.specs.Prelude.{◌≡◌, refl, List, [], ◌∷◌, ◌++◌, map, ℕ, zero, suc, ◌+◌, ◌*◌, ◌≤◌, ◌<◌, ℤ, pos, length, drop, get_or}
-use Rattle.std.proofs.Common.{sym, ap, ◌∙◌, subst, arith, add-one, length-append, drop_of_length-le, drop-cons}
+use Rattle.std.specs.Prelude.{◌≡◌, refl, List, [], ◌∷◌, ◌++◌, map, ℕ, suc, ◌+◌, ◌≤◌, ◌<◌, ℤ, pos, length, drop, get_or}
+use Rattle.std.proofs.Common.{sym, ap, ◌∙◌, arith, add-one, length-append, drop_of_length-le, drop-cons}
 use Rattle.std.proofs.lemmas.List.{map-append}
 use Rattle.lists.specs.Plain.{to_nat, positions}
 use Rattle.paper.specs.Descriptor.{cell_of, size_of, segment_of, segments_of}

@@ -1,7 +1,7 @@
 -- A text that is written part by part: what is still due at place k of the buffer, the place where it ends, and the buffer once it is written.
 -- Use: `todo_start`, then for each part `todo_room` before it is written and `todo_step` after, and `todo_written` at the end. Assumes nothing.
 use Rattle.std.specs.Prelude.{◌≡◌, refl, List, [], ◌++◌, ℕ, ◌+◌, ◌≤◌, length}
-use Rattle.std.proofs.Common.{sym, ap, ap₂, ◌∙◌, subst, append-nil, arith, length-append}
+use Rattle.std.proofs.Common.{sym, ap₂, ◌∙◌, subst, append-nil, arith, length-append}
 use Rattle.lists.specs.Parts.{put, put_nil, put_join}
 use Rattle.texts.specs.Written.{Written, written_length}
 
