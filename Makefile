@@ -11,15 +11,17 @@ FC := gfortran
 CFLAGS ?= -O2 -Wall -Wextra
 FFLAGS ?= -O2 -Wall -Wextra
 
-# The archive of `hosts`, as `rt staticlib` writes it; proved again where a source is younger.
+# The archive of `hosts`, as `rt lib` writes it; proved again where a source is younger.
 PROVED ?= target/staticlib/libhosts.a
 OUT := target/kalinosz
 MADE := $(OUT)/libkalinosz.a $(OUT)/libkalinosz.so $(OUT)/kalinosz.mod
 
 all: $(MADE)
 
-target/staticlib/libhosts.a: crates.txt $(shell find crates -name '*.rt' -o -name '*.antt')
-	rt staticlib hosts
+target/staticlib/libhosts.a: crates.txt $(shell find crates -name out -prune -o -name '*.rt' -print -o -name '*.antt' -print)
+	cd crates/hosts && rt lib
+	@mkdir -p $(@D)
+	cp crates/hosts/out/libhosts.a $@
 
 $(OUT)/descriptor.o: fortran/descriptor.c include/kalinosz.h
 	@mkdir -p $(OUT)
@@ -44,8 +46,7 @@ install: all
 	sed -e 's|@PREFIX@|$(PREFIX)|' -e 's|@VERSION@|$(VERSION)|' include/kalinosz.pc.in >$(DESTDIR)$(PREFIX)/lib/pkgconfig/kalinosz.pc
 
 example:
-	rt check survey
-	target/bin/survey <crates/survey/stdin
+	cd crates/survey && rt run
 
 languages:
 	languages/run
