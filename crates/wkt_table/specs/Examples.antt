@@ -1,6 +1,6 @@
 -- Request E3: examples of reading on both sides of each test, one statement; antt computes them. Strings stand for bytes and for cells.
 -- Examples of writing are in `paper`'s WktExamples.
-use Rattle.std.specs.Prelude.{◌≡◌, refl, List, [], ◌∷◌, ℕ, ℤ, pos, replicate}
+use Rattle.std.specs.Prelude.{List, [], ℕ, ℤ}
 use Prim.Native.String.{String}
 use Rattle.lists.specs.Plain.{filter, positions}
 use Rattle.paper.specs.Rows.{cells, sevens, reply}

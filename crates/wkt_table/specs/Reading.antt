@@ -1,12 +1,12 @@
 -- What `read` gives along its order 13, 3, 5, 7, by the tests on the way.
-use Rattle.std.specs.Prelude.{◌≡◌, refl, Bool, true, false, List, [], ◌∷◌, map, ℕ, ◌*◌, ◌/◌, ◌≤◌, ◌<◌, ℤ, pos, length}
+use Rattle.std.specs.Prelude.{◌≡◌, Bool, true, false, List, [], ◌∷◌, map, ℕ, ◌*◌, ◌/◌, ◌≤◌, ◌<◌, ℤ, pos, length}
 use Rattle.std.proofs.Common.{sym, ap, ap₂, ◌∙◌, subst, arith, lt-ltb, le-ltb}
 use Rattle.lists.specs.Tests.{holds}
 use Rattle.lists.specs.Choosing.{First}
 use Rattle.paper.specs.Descriptor.{at}
 use Rattle.paper.specs.Answers.{Answer, bad_extent, bad_coordinate, bad_buffer, far_off, judged, refused, done}
 use Rattle.paper.specs.Results.{Result, over}
-use Rattle.paper.specs.Wkt.{Accepted, coordinates_of, reader_order, Read, refuses as read-refuses, accepts}
+use Rattle.paper.specs.Wkt.{coordinates_of, reader_order, Read, refuses as read-refuses, accepts}
 use Rattle.paper.specs.declared.Reply.{Reply}
 use Rattle.paper.specs.declared.Segment.{Segment}
 use Rattle.table.specs.Cells.{found_at}

@@ -1,5 +1,5 @@
 -- Round trip: reading what was written gives the same coordinates. The one spelling is an accepted text, and is accepted with the table's segments.
-use Rattle.std.specs.Prelude.{◌≡◌, refl, Bool, true, false, cond, not, ◌&&◌, List, [], ◌∷◌, ◌++◌, map, ℕ, zero, suc, ◌+◌, ◌-◌, ◌*◌, ◌/◌, ◌%◌, ◌≤◌, ◌<◌, ltb, leb, ℤ, pos, negsuc, neg_ℤ, length, drop}
+use Rattle.std.specs.Prelude.{◌≡◌, refl, Bool, true, false, cond, ◌&&◌, List, [], ◌∷◌, ◌++◌, ℕ, zero, suc, ◌+◌, ◌-◌, ◌*◌, ◌/◌, ◌%◌, ◌≤◌, ◌<◌, ltb, leb, ℤ, pos, negsuc, neg_ℤ, length, drop}
 use Rattle.std.proofs.Common.{sym, ◌∙◌, subst, append_assoc, arith, ltb-true, ltb-false, le-leb, le-ltb}
 use Rattle.std.proofs.Math.Path.{ap}
 use Rattle.std.proofs.Math.Seq.{take-append_seam}
@@ -7,10 +7,10 @@ use Rattle.lists.specs.Plain.{to_nat}
 use Rattle.lists.specs.Tests.{by_test, clash}
 use Rattle.lists.specs.Every.{All}
 use Rattle.paper.specs.Descriptor.{segments_of}
-use Rattle.paper.specs.Answers.{Answer, bad_extent, bad_coordinate, bad_buffer, refused, done}
-use Rattle.paper.specs.Results.{Result, over}
+use Rattle.paper.specs.Answers.{bad_extent, bad_coordinate, bad_buffer, refused, done}
+use Rattle.paper.specs.Results.{over}
 use Rattle.paper.specs.Lines.{is_digit, digit0, minus, value_from, decimal_to, decimal, bytes}
-use Rattle.paper.specs.Wkt.{space, opening, closing, comma, Token, word, number, mark, line_tokens, further_tokens, body_tokens, Digits, one, more, Spells, either_case, unsigned, negative, itself, aWord, a_number, aMark, spaces, Spelled, end, then, Accepted, coordinates_of, reader_order, Read, accepts, line_text, further_text, body_text, text_of, writer_order, written, ReadsBack, new_text}
+use Rattle.paper.specs.Wkt.{space, opening, closing, comma, Token, word, number, mark, line_tokens, further_tokens, Digits, one, more, Spells, either_case, unsigned, negative, itself, aWord, a_number, aMark, spaces, Spelled, end, then, Accepted, coordinates_of, reader_order, Read, accepts, line_text, further_text, text_of, writer_order, written, ReadsBack, new_text}
 use Rattle.paper.specs.declared.Descriptor.{Descriptor}
 use Rattle.paper.specs.declared.Reply.{Reply}
 use Rattle.paper.specs.declared.Segment.{Segment}

@@ -21,7 +21,8 @@ pub fn read(text: &[u8], cells: &mut [i32]) -> Reply
     if table::bad_extent(whole::count(n)) {
         return refusals::refusal(3, 0, 0);
     }
-    if tally.fitting < tally.numbers {
+    let far = tally.fitting < tally.numbers;
+    if far {
         return refusals::refusal(5, 0, tally.fitting / 4);
     }
     if cells.len() < tally.numbers {
