@@ -1,7 +1,7 @@
 // The proved builder against the builder in plain C++ (bench/doc01.hpp), n = 4,096, on several kinds of table: random, all on one row, all crossing, all points, sorted, reversed.
 // First every word is compared on thousands of small tables, with the words after the index and the table itself; then on the large ones. Times are this thread's, the least of
 // some interleaved rounds, so that a ratio holds on a busy machine; a last line 'N passed, M failed' counts the comparisons.
-//     rt staticlib hosts && g++ -O3 -o target/build bench/build.cpp target/staticlib/libhosts.a && target/build
+//     make && g++ -O3 -o target/build bench/build.cpp target/staticlib/libhosts.a && target/build
 #include "doc01.hpp"
 #include <algorithm>
 #include <cmath>

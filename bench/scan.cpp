@@ -1,6 +1,6 @@
 // The whole scan, refusals included, against a branch-free C++ loop that only tests boxes and always stores: a floor, and no answer for slanted segments.
 // 16 tables of 4,096 segments, so that no branch predictor learns a table; contiguous and with a negative stride; every listing is checked.
-//     rt staticlib hosts && g++ -O3 -o target/scan bench/scan.cpp target/staticlib/libhosts.a && target/scan
+//     make && g++ -O3 -o target/scan bench/scan.cpp target/staticlib/libhosts.a && target/scan
 #include <algorithm>
 #include <cstdint>
 #include <cstdio>

@@ -1,7 +1,7 @@
 // The proved query against the same query in plain C++ (bench/doc01.hpp), on one index: n = 4,096, short and long segments, windows of about 0, 10, 100 and 1,000 hits.
 // Before it is timed, every window's reply and every number cell is compared, and so is the outcome on words that were damaged. Times are this thread's, the least of
 // some interleaved rounds, so that a ratio holds on a busy machine; a last line 'N passed, M failed' counts the comparisons.
-//     rt staticlib hosts && g++ -O3 -o target/walk bench/walk.cpp target/staticlib/libhosts.a && target/walk
+//     make && g++ -O3 -o target/walk bench/walk.cpp target/staticlib/libhosts.a && target/walk
 #include "doc01.hpp"
 #include <algorithm>
 #include <cmath>

@@ -1,5 +1,5 @@
 // The proved reader and writer of WKT against the same design in C, both in one run: two passes, an automaton of a byte a turn, no allocation.
-//     rt staticlib hosts && gcc -O3 -o target/wkt bench/wkt.c target/staticlib/libhosts.a && target/wkt
+//     make && gcc -O3 -o target/wkt bench/wkt.c target/staticlib/libhosts.a && target/wkt
 // It prints nanoseconds of processor time a byte, the least of many rounds taken by turns, and the ratio; every reply and every cell is compared first.
 #include <stdint.h>
 #include <stdio.h>

@@ -1,6 +1,6 @@
 // The three answers for C hosts against an independent reading of document 01: exact fractions for meeting, every cell one by one for the descriptor,
 // powers of two for W(n). Random numbers from a seed, the ends of 64 bits and the limits among them. It checks itself: the last line is 'N passed, M failed'.
-//     rt staticlib hosts && gcc -O2 -o target/answers compare/answers.c target/staticlib/libhosts.a && target/answers [cases [seed]]
+//     make && gcc -O2 -o target/answers compare/answers.c target/staticlib/libhosts.a && target/answers [cases [seed]]
 #include <inttypes.h>
 #include <stdint.h>
 #include <stdio.h>
