@@ -1,10 +1,6 @@
 -- What the check leaves of `write`.
-use mathlib.Core.Path.{◌∙◌}
-use Rattle.windows.specs.Outcome.{copied_counts, copied_numbers, asked_again}
-use borrow.Author.Rules.{rules}
+use Rattle.windows.specs.Outcome.{asked_again}
 use Rattle.windows.proofs.write.Goals as goal
 
 pub returns : goal.returns
-returns c =
-    let s = c in
-    asked_again s.requires.whole.1 s.args.counts.now s.args.numbers.now s.requires.whole.0.cells s.requires.whole.2 c.ask.ensures
+returns c = let w = c.requires.whole in asked_again w.1 c.args.counts.now c.args.numbers.now w.0.cells w.2 c.ask.ensures
