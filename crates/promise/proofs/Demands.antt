@@ -107,10 +107,3 @@ build_promise table d index e =
     let a = build_accepts table d index e in
     let words = index_words (first_number d.kind d.lower) (segments_of d table) in
     record { numbered = a.lower; accepted = a.straight; rest = drop (length words) index; words = ap (λ (r : Result). r.1) (build_done table d index e) }
-
--- both together: from a builder that is done to what a query of its words promises
-pub build_then_query : (table : List ℤ) (d : Descriptor) (index : List ℤ) (w : Window) (numbers : List ℤ)
-    → (built table d index).0.number ≡ pos 0 → (bad_window w).given ≡ false
-    → QueryPromise (first_number d.kind d.lower) (segments_of d table) w (length numbers) (queried (built table d index).1 w numbers)
-build_then_query table d index w numbers e good =
-    query_promise (first_number d.kind d.lower) (segments_of d table) w (built table d index).1 numbers (build_promise table d index e) good
