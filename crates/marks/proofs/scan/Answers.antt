@@ -10,7 +10,7 @@ use Rattle.paper.specs.Answers.{bad_window, bad_coordinate, refused, done}
 use Rattle.scan.specs.Listing.{Ready}
 use Rattle.table.specs.Cells.{Held}
 use Rattle.refusals.specs.Orders.{refusal_at, first_given, table_order, table_pass, found_at_is, found_none}
-use Rattle.marks.specs.Scanning.{by_table, by_window, by_room, by_far, by_listing}
+use Rattle.marks.proofs.Scanning.{by_table, by_window, by_room, by_far, by_listing}
 use Rattle.marks.proofs.scan.Goals as goal
 
 -- in each answer, what the tests before it have shown
