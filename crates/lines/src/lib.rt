@@ -314,7 +314,8 @@ fn cut(
         }
     }
     let m = n + (e - at);
-    if 80 < m {
+    let long = 80 < m;
+    if long {
         let place = r.out;
         let line = r.line;
         let end = texts::put_fault(out, place, 0, line);
