@@ -249,7 +249,8 @@ fn window_line(f: &[u8]) -> Line
 pub fn line_of(f: &[u8]) -> Line
     ensures { shown_line result ≡ line_of f.now }
 {
-    if 80 < f.len() {
+    let long = 80 < f.len();
+    if long {
         return Line::Other;
     }
     let e = end_of(f, 0, b'\t');
