@@ -46,7 +46,7 @@ install: all
 	sed -e 's|@PREFIX@|$(PREFIX)|' -e 's|@VERSION@|$(VERSION)|' include/kalinosz.pc.in >$(DESTDIR)$(PREFIX)/lib/pkgconfig/kalinosz.pc
 
 example:
-	cd crates/survey && rt run
+	cd crates/survey && rt run <stdin
 
 languages:
 	languages/run

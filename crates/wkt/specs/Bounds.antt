@@ -1,5 +1,5 @@
 -- How many segments there can be after a line.
-use Rattle.std.specs.Prelude.{ℕ, ◌≤◌}
+use Rattle.std.specs.Prelude.{◌≤◌}
 use Rattle.wkt.specs.declared.Taken.{Taken}
 use Rattle.wkt.specs.declared.Taken.TheVariants.{Fault, Next}
 
