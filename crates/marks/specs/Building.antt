@@ -8,7 +8,7 @@ use Rattle.paper.specs.Results.{Result, over, built}
 use Rattle.paper.specs.Demands.{IndexOf}
 use Rattle.paper.specs.declared.Descriptor.{Descriptor}
 use Rattle.paper.specs.declared.Reply.{Reply}
-use Rattle.promise.proofs.Demands.{build_promise}
+use Rattle.promise.specs.Demands.{build_promise}
 use Rattle.refusals.specs.Orders.{refusal_at, refuse, first_given, table_order, table_given, table_left, refuses, passes}
 
 module _ (table : List ℤ) (d : Descriptor) (index : List ℤ) where

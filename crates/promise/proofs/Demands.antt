@@ -1,25 +1,23 @@
 -- The promises, proved: what `paper`'s Demands states holds of every index, whatever its segments, crossing or not, equal or not.
 -- Demand 2 is in `once` and `groups`, demand 3 in `few`; `ends` says that the walk is never stopped. `low_ends` (LowEnds) has the first group by itself.
-use Rattle.std.specs.Prelude.{◌≡◌, refl, false, List, map, ℕ, ℤ, pos, length, drop}
+use Rattle.std.specs.Prelude.{◌≡◌, refl, false, List, map, ℕ, ℤ, pos, length}
 use Rattle.std.proofs.Common.{sym, ap, ap₂, subst, ◌∙◌, arith, take_at, le→leb}
 use Rattle.std.proofs.lemmas.List.{length-map}
 use Rattle.lists.specs.Plain.{joined}
-use Rattle.paper.specs.Descriptor.{first_number, number_of, segments_of}
+use Rattle.paper.specs.Descriptor.{number_of}
 use Rattle.paper.specs.Answers.{bad_slice, bad_window, bad_windows}
 use Rattle.paper.specs.Windows.{windows_of}
 use Rattle.paper.specs.Orders.{bad_index, bad_walks, due_by}
 use Rattle.paper.specs.Walk.{Walked, walk_of}
-use Rattle.paper.specs.Words.{index_words}
-use Rattle.paper.specs.Results.{Result, ManyResult, numbers_of, built, queried, queried_many}
+use Rattle.paper.specs.Results.{Result, ManyResult, numbers_of, queried, queried_many}
 use Rattle.paper.specs.Demands.{IndexOf, IndexDemands, ListsNumbers, most_visits, QueryDone, QueryPromise, ManyDone, ManyPromise}
-use Rattle.paper.specs.declared.Descriptor.{Descriptor}
 use Rattle.paper.specs.declared.Segment.{Segment}
 use Rattle.paper.specs.declared.Window.{Window}
 use Rattle.promise.specs.Index.{Walks, first_word}
 use Rattle.promise.proofs.Index.{index_walks, groups_once}
 use Rattle.promise.specs.Many.{due_to, due_length, all_due, many_done, many_short}
 use Rattle.promise.proofs.Many.{walks_end}
-use Rattle.promise.specs.Calls.{listed_in, visits_in, index_sound, once_numbers, listed_numbers, build_accepts, build_done, query_done, query_short}
+use Rattle.promise.specs.Calls.{listed_in, visits_in, index_sound, once_numbers, listed_numbers, query_done, query_short}
 
 -- demands 2 and 3 on the words of an index
 pub index_demands : IndexDemands
@@ -99,11 +97,3 @@ many_promise first segments ws edges counts numbers index slice good = record {
 
     due_are_is : (w : Window) → due_to ws w ≡ numbers_of first (walks w).listed
     due_are_is w = ap₂ (λ (z : ℤ) (o : Walked). numbers_of z (listed_in o)) (first_word first segments ws index) (walks w).ends
-
--- a builder that is done has written an index of the table, in whatever buffer
-pub build_promise : (table : List ℤ) (d : Descriptor) (index : List ℤ) → (built table d index).0.number ≡ pos 0
-    → IndexOf (first_number d.kind d.lower) (segments_of d table) (built table d index).1
-build_promise table d index e =
-    let a = build_accepts table d index e in
-    let words = index_words (first_number d.kind d.lower) (segments_of d table) in
-    record { numbered = a.lower; accepted = a.straight; rest = drop (length words) index; words = ap (λ (r : Result). r.1) (build_done table d index e) }

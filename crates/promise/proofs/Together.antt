@@ -6,7 +6,8 @@ use Rattle.paper.specs.Results.{built, queried}
 use Rattle.paper.specs.Demands.{QueryPromise}
 use Rattle.paper.specs.declared.Descriptor.{Descriptor}
 use Rattle.paper.specs.declared.Window.{Window}
-use Rattle.promise.proofs.Demands.{query_promise, build_promise}
+use Rattle.promise.specs.Demands.{build_promise}
+use Rattle.promise.proofs.Demands.{query_promise}
 
 pub build_then_query : (table : List ℤ) (d : Descriptor) (index : List ℤ) (w : Window) (numbers : List ℤ)
     → (built table d index).0.number ≡ pos 0 → (bad_window w).given ≡ false

@@ -15,3 +15,4 @@ pub mod Index
 pub mod Calls
 pub mod Many
 pub mod Instance
+pub mod Demands
