@@ -1,5 +1,5 @@
 -- A part of a list, `win`, and a list with a part replaced, `put`: what a lent part of a slice is, and what a function that writes leaves behind.
--- Use: contracts of writing functions say `now s.exit ≡ put a NEW (now s.entry)`; side conditions are `omega (arith, lengths..)`; `lent` turns what the borrow checker
+-- Use: contracts of writing functions say `s.new ≡ put a NEW s.old`; side conditions are `omega (arith, lengths..)`; `lent` turns what the borrow checker
 -- gives for `&mut s[a..e]` into `put`; a loop's invariant is "what is still due, put at its place, is the whole" (`put_step`, `put_nil`). Assumes nothing.
 use Rattle.std.specs.Prelude.{◌≡◌, get_or}
 use Rattle.std.proofs.Math.Path.{sym, ap}

@@ -1,2 +1,2 @@
-// Demands 2 and 3 of the index, proved. The crate is its theory: specs/Demands.antt has the theorems, and there is no code.
+// Demands 2 and 3 of the index, proved. The crate is its theory: proofs/Demands.antt and proofs/Together.antt have the theorems, specs/Demands.antt what a builder promises; there is no code.
 #![tactic(auto)]

@@ -1,4 +1,4 @@
--- The events' outcome in `paper` (positions in order, and visits) beside what the code keeps: `Stands-after`.
+-- The events' outcome in `paper` (positions in order, and visits) beside what the code keeps: `Stands`, which `given_after` takes from one to the other.
 use Rattle.std.specs.Prelude.{◌≡◌, Bool, true, false, cond, ℕ, ◌+◌, ◌≤◌, ◌<◌, ltb, eqb, length, drop, set, ℤ}
 use Rattle.std.proofs.Math.Path.{refl, subst}
 use Rattle.std.proofs.Common.{sym, ap, ◌∙◌, arith, length-append, ltb-true, ne_eqb}

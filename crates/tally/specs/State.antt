@@ -1,5 +1,5 @@
 -- What the code keeps of a walk, a tally and the number cells, and what a list of `paper`'s events makes of it: `after`.
--- A proof cites the laws `after-..` and opens nothing.
+-- A proof cites the laws `after_..` and opens nothing.
 use Rattle.std.specs.Prelude.{◌≡◌, Bool, cond, ℕ, zero, suc, ◌+◌, ◌≤◌, ◌<◌, length, eqb, ℤ}
 use Rattle.std.proofs.Math.Path.{refl, ap}
 use Rattle.std.proofs.Common.{sym, ◌∙◌, arith, lt-ltb, le-ltb, ltb-true, eq-eqb, ne_eqb}

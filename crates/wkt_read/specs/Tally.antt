@@ -1,5 +1,5 @@
 -- What the code keeps of a reading: values clipped one above the limits, the count of numbers, and of those before the first beyond the limits.
--- Use: `shown_step` and `tally_step` for a loop over the bytes; `fitting-far` and `clipped_all` say that clipping changes no answer. Assumes nothing.
+-- Use: `shown_step` and `tally_step` for a loop over the bytes; `clipped_all` says that clipping changes no answer. Assumes nothing.
 use Rattle.std.specs.Prelude.{◌≡◌, refl, Bool, true, false, not, cond, ◌&&◌, List, [], ◌∷◌, ◌++◌, map, ℕ, zero, suc, ◌+◌, ◌-◌, ◌*◌, ◌≤◌, ◌<◌, min, ◌^◌, eqb, leb, ℤ, pos, negsuc, neg_ℤ, ◌-ℤ◌, length}
 use Rattle.std.proofs.Common.{sym, ap, ap₂, ◌∙◌, arith, length-append, ne_eqb, leb-true, leb-false, le-leb}
 use Rattle.std.proofs.Math.Dec.{eqb-suc-suc}
