@@ -38,7 +38,7 @@ TITLES = [
     ("through_the_spot", "meets"),
     ("past_the_spot", "does not meet"),
 ]
-QUOTED = ["gap", "boxes_overlap", "weight", "both_sides", "meets"]
+QUOTED = ["gap", "boxes_overlap", "weight", "corners", "both_sides", "meets"]
 
 
 # ---------------------------------------------------------------- the code and the examples, as they stand
@@ -54,11 +54,11 @@ def line_of_weight():
 
 
 def corner_names():
-    return re.search(r"^ *// (low-.*)$", function("meets"), re.M).group(1).split(", ")
+    return re.search(r"^// (low-.*)\nfn corners\(", CODE.read_text(), re.M).group(1).split(", ")
 
 
 def corner_edges():
-    return re.findall(r"^ *\[window\.(\w), window\.(\w)\],$", function("meets"), re.M)
+    return re.findall(r"^ *\[window\.(\w), window\.(\w)\],$", function("corners"), re.M)
 
 
 def starred():

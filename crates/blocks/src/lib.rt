@@ -2,114 +2,146 @@
 // make it as long as n; each block walks its low or its high queue.
 #![tactic(auto)]
 
-ghost use Rattle.std.specs.Prelude.{◌≡◌, cond, ◌+◌, ◌*◌, ◌^◌, ◌<◌, ◌≤◌, length};
+ghost use Rattle.std.specs.Prelude.{◌≡◌, ◌+◌, ◌*◌, ◌^◌, ◌<◌, ◌≤◌, length, MatchResult};
 ghost use Rattle.paper.specs.declared.Window.{Window};
 ghost use Rattle.tally.specs.State.{Along};
-ghost use Rattle.tally.specs.Reads.{Ready};
-ghost use Rattle.blocks.specs.Blocks.{blocks_of, Blocked};
+ghost use Rattle.blocks.specs.Blocks.{blocks_of, end_at, queue_in, below_of, some_of, Fit, Unfit, Stepped};
 
-use queues::{Band, queue};
-use tally::{Index, Tally, reaches, see, stop, whole_at};
+use axes::End;
+use queues::{Band, Pending, Queue};
+use tally::{Index, Spoiled, Tally};
 
-// Where a block's low or high queue stands.
-fn queue_at(at: usize, s: usize, high: bool) -> usize
-    requires { (0 < s) × (at + 8 * s < 2 ^ 64) }
-    ensures value { result ≡ cond high (at + 4 + 2 * s) (at + 4) }
-    ensures within { result + 2 * s ≤ at + 8 * s }
-{
-    if high { at + 4 + 2 * s } else { at + 4 }
-}
-
-// What one block leaves: the block that the walk goes on to, none where m is 0.
-#[derive(Clone, Copy)]
+/// A block that is to be walked: the word where it begins, and over how many it is.
+#[derive(Clone, Copy, Debug, PartialEq, Eq)]
 pub struct Block {
-    pub tally: Tally,
     pub at: usize,
-    pub m: usize,
+    pub size: usize,
 }
 
-fn one_block(
-    words: &[i32],
-    numbers: &mut [i32],
-    stack: &mut [usize],
-    index: Index,
-    band: Band,
-    tally: Tally,
-    at: usize,
-    m: usize,
-) -> Block
-    requires ready { Ready index words.now }
-    requires axis_bound { band.axis < 2 }
-    requires m_nonzero { (0 < m) × (at + 8 * m ≤ length words.now) }
-    requires stopped_value { (tally.stopped ≡ 0) × (tally.visits + 2 * m < 2 ^ 20) × (40 ≤ length stack.old) }
-    ensures { Blocked words.now index band at m (tally, numbers.old) result numbers.new }
-{
-    let seen = see(tally);
-    let s = whole_at(words, at + 1, 0);
-    let left = whole_at(words, at + 2, m + 1);
-    let right = whole_at(words, at + 3, m + 1);
-    if (s == 0) | (s + left + right != m) {
-        return Block {
-            tally: stop(seen),
-            at: at,
-            m: 0,
-        };
-    }
-    let high = !reaches(words, at, band.edge);
-    let walked = queue(
-        words,
-        numbers,
-        stack,
-        index,
-        band,
-        high,
-        seen,
-        queue_at(at, s, high),
-        s,
-    );
-    if high {
-        return Block {
-            tally: walked,
-            at: at + 8 * s + 8 * left,
-            m: right,
-        };
-    }
-    Block {
-        tally: walked,
-        at: at + 8 * s,
-        m: left,
-    }
+/// How many stay in a block, and over how many its left and its right block are.
+#[derive(Clone, Copy, Debug, PartialEq, Eq)]
+pub struct Sizes {
+    pub stay: usize,
+    pub left: usize,
+    pub right: usize,
 }
 
-// The chain of blocks that begins with one over m at a word.
-pub fn blocks(
-    words: &[i32],
-    numbers: &mut [i32],
-    stack: &mut [usize],
-    index: Index,
-    band: Band,
-    tally0: Tally,
-    at0: usize,
-    m0: usize,
-) -> Tally
-    requires ready { Ready index words.now }
-    requires axis_bound { band.axis < 2 }
-    requires m0_in_bounds { at0 + 8 * m0 ≤ length words.now }
-    requires m0_bound { (tally0.visits + 2 * m0 < 2 ^ 20) × (40 ≤ length stack.old) }
-    ensures { (w : Window) → Along index.n index.lower (blocks_of words.now index band w m0 at0) (2 * m0) (tally0, numbers.old) (result, numbers.new) }
-{
-    let mut tally = tally0;
-    let mut at = at0;
-    let mut m = m0;
-    while 0 < m {
-        if 0 < tally.stopped {
-            return tally;
+/// What one block does itself, and the block that the walk goes on to.
+#[derive(Clone, Copy)]
+pub struct Step {
+    pub tally: Tally,
+    pub next: Option<Block>,
+}
+
+impl Block {
+    // The sizes that its words say: some stay, and all of them make up the block.
+    fn sizes(self, index: Index) -> Result<Sizes, Spoiled>
+        requires { self.at + 3 < length index.words.now }
+        ensures { MatchResult result (Fit index.entry.words.now self) (λ _. Unfit index.entry.words.now self) }
+    {
+        let stay = index.whole_at(self.at + 1).ok_or(Spoiled)?;
+        let left = index.whole_at(self.at + 2).ok_or(Spoiled)?;
+        let right = index.whole_at(self.at + 3).ok_or(Spoiled)?;
+        if (stay == 0) | (stay + left + right != self.size) {
+            return Err(Spoiled);
         }
-        let block = one_block(words, numbers, stack, index, band, tally, at, m);
-        let next = block.tally;
-        tally = next;
-        at = block.at;
-        m = block.m;
+        Ok(Sizes { stay, left, right })
     }
-    tally
+
+    // Where the edge is not above its centre, its low queue is walked and then its left block; else the high queue and the right block.
+    fn end(self, index: Index, band: Band) -> End
+        requires { self.at < length index.words.now }
+        ensures { result ≡ end_at index.entry.words.now band self }
+    {
+        if band.edge <= index.word_at(self.at) {
+            End::Low
+        } else {
+            End::High
+        }
+    }
+
+    // Its queue of an end, after the four words of sizes.
+    fn queue(self, sizes: Sizes, end: End) -> Queue
+        requires { self.at + 4 + 2 * sizes.stay < 2 ^ 64 }
+        ensures { result ≡ queue_in self sizes end }
+    {
+        let at = match end {
+            End::Low => self.at + 4,
+            End::High => self.at + 4 + 2 * sizes.stay,
+        };
+        Queue {
+            at,
+            size: sizes.stay,
+        }
+    }
+
+    // Its left or its right block, after the words of its own.
+    fn below(self, sizes: Sizes, end: End) -> Block
+        requires { self.at + 8 * sizes.stay + 8 * sizes.left < 2 ^ 64 }
+        ensures { result ≡ below_of self sizes end }
+    {
+        let left = self.at + 8 * sizes.stay;
+        match end {
+            End::Low => Block {
+                at: left,
+                size: sizes.left,
+            },
+            End::High => Block {
+                at: left + 8 * sizes.left,
+                size: sizes.right,
+            },
+        }
+    }
+
+    // The block, where it is over some.
+    fn some(self) -> Option<Block>
+        ensures { result ≡ some_of self }
+    {
+        if self.size == 0 { None } else { Some(self) }
+    }
+
+    fn enter(
+        self,
+        index: Index,
+        numbers: &mut [i32],
+        pending: &mut Pending,
+        band: Band,
+        tally: Tally,
+    ) -> Result<Step, Spoiled>
+        requires inside { (0 < self.size) × (self.at + 8 * self.size ≤ length index.words.now) }
+        requires few { tally.visits + 2 * self.size < 2 ^ 20 }
+        ensures { Stepped index.entry.words.now index.entry.n band index.entry.lower self tally numbers.old result numbers.new }
+    {
+        let seen = tally.seen();
+        let sizes = self.sizes(index)?;
+        let end = self.end(index, band);
+        let queue = self.queue(sizes, end);
+        let walked = queue.walk(index, numbers, pending, band, end, seen)?;
+        Ok(Step {
+            tally: walked,
+            next: self.below(sizes, end).some(),
+        })
+    }
+
+    /// The walk of a block: of the chain of blocks that begins with it. A stack is lent for the queues.
+    pub fn walk(
+        self,
+        index: Index,
+        numbers: &mut [i32],
+        pending: &mut Pending,
+        band: Band,
+        mut tally: Tally,
+    ) -> Result<Tally, Spoiled>
+        requires inside { self.at + 8 * self.size ≤ length index.words.now }
+        requires few { tally.visits + 2 * self.size < 2 ^ 20 }
+        ensures { (w : Window) → Along index.entry.n index.entry.lower (blocks_of index.entry.words.now index.entry.n band w self) (2 * self.size) tally numbers.old result numbers.new }
+    {
+        let mut next = self.some();
+        while let Some(block) = next {
+            let step = block.enter(index, numbers, pending, band, tally)?;
+            tally = step.tally;
+            next = step.next;
+        }
+        Ok(tally)
+    }
 }

@@ -6,12 +6,12 @@ use Rattle.std.proofs.Common.{ap₂, ◌∙◌, arith, length-append}
 use mathlib.Core.List.{List, [], ◌∷◌, ◌++◌}
 use Prim.Native.Nat.{ℕ, zero, suc, ◌-◌, ◌*◌, ◌/◌, ◌≤◌, ◌<◌}
 use Rattle.std.proofs.Math.ListN.{length}
-use Rattle.std.proofs.lemmas.List.{length-replicate}
+use Rattle.std.proofs.lemmas.List.{get_or_default, length-replicate}
 use Rattle.lists.specs.Parts.{put}
 use Rattle.lists.specs.Plain.{count, filter, sort}
 use Rattle.lists.specs.Counting.{count_length, filter_count}
 use Rattle.lists.specs.Sorting.{sort_length, sort_same}
-use Rattle.build_queue.specs.Queues.{within_any, queue_length, queue_same}
+use Rattle.build_queue.specs.Queues.{queue_length, queue_same}
 use Rattle.build_block.specs.Sides.{Tidy, by_near, near_linear, centre_at, sides, somebody}
 use Rattle.paper.specs.declared.Segment.{Segment}
 use Rattle.paper.specs.Words.{Axis, End, near_of, stays, lefts, rights, queue_words, block_words_to, block_words}
@@ -63,7 +63,7 @@ module _ (rs : List Segment) (axis : Axis) (tidy : Tidy rs axis) where
 
   centre_any : (p : ℕ) (ps : List ℕ) → near_of rs axis (get_or (sort (by_near rs axis) (p ∷ ps)) (length (p ∷ ps) / 2) p) ≡ centre_at rs axis (p ∷ ps)
   centre_any p ps =
-      ap (near_of rs axis) (within_any (sort (by_near rs axis) (p ∷ ps)) (length (p ∷ ps) / 2) p 0 (omega (arith, sort_length (by_near rs axis) (p ∷ ps))))
+      ap (near_of rs axis) (get_or_default (sort (by_near rs axis) (p ∷ ps)) (length (p ∷ ps) / 2) p 0 (omega (arith, sort_length (by_near rs axis) (p ∷ ps))))
 
   -- any bound that is large enough gives the same words
   enough : (f g : ℕ) (ps : List ℕ) → length ps ≤ f → length ps ≤ g → block_words_to rs axis f ps ≡ block_words_to rs axis g ps

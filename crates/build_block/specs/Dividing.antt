@@ -10,7 +10,7 @@ use Rattle.lists.specs.Filters.{filter_map}
 use Rattle.lists.specs.Parts.{win, put, length_win, length_put, win_put_at, win_put_left, win_put_right, take_win, drop_win}
 use Rattle.build_queue.specs.Runs.{named, Stands}
 use Rattle.build_block.specs.Sides.{Tidy, Nearer, centre_at, centre_middle, sides, somebody, rights_end, lefts_front, stays_front}
-use Rattle.build_block.specs.Cutting.{Cut}
+use Rattle.build_block.specs.Cutting.{Cut, reached}
 use Rattle.build_block.specs.Separating.{parted}
 use Rattle.build_block.specs.declared.Division.{Division}
 use Rattle.paper.specs.declared.Segment.{Segment}
@@ -42,7 +42,7 @@ module _ (rs : List Segment) (axis : Axis) where
 
     module _ (some : 0 < m) (long : length xs ≡ 8 * m) (run : Stands (Nearer rs axis) (win 0 m xs))
         (middle : centre ≡ near_of rs axis (get_or ps (m / 2) 0)) (agrees : (p : ℕ) → goes (pos p) ≡ lt_z (far_of rs axis p) centre)
-        (found : Cut rs axis centre ps (m / 2 + 1) cut)
+        (found : Cut rs axis centre ps cut)
         (moved : y₁ ≡ put (8 * cut) (win cut (m - cut) xs) xs)
         (parting : y₂ ≡ parted goes (win 0 cut y₁) 0 cut y₁) (staying : stay ≡ length (filter (λ z. not (goes z)) (win 0 cut y₁))) where
       size : length ps ≡ m
@@ -51,11 +51,11 @@ module _ (rs : List Segment) (axis : Axis) where
       centre_is : centre ≡ c
       centre_is = middle ∙ ap (λ k. near_of rs axis (get_or ps (k / 2) 0)) (sym size) ∙ centre_middle rs axis run.order
 
-      cut_at : Cut rs axis c ps (m / 2 + 1) cut
-      cut_at = subst (λ z. Cut rs axis z ps (m / 2 + 1) cut) centre_is found
+      cut_at : Cut rs axis c ps cut
+      cut_at = subst (λ z. Cut rs axis z ps cut) centre_is found
 
       bounds : (0 < cut) × (cut ≤ m)
-      bounds = (omega (arith, found.after), omega (arith, found.within, size))
+      bounds = (reached rs axis centre ps (m / 2) cut (omega (arith, some, size)) middle found, omega (arith, found.within, size))
 
       test_is : (p : ℕ) → goes (pos p) ≡ mine p
       test_is p = agrees p ∙ ap (lt_z (far_of rs axis p)) centre_is

@@ -10,10 +10,15 @@ use Rattle.lists.specs.Every.{Sorted, sorted_filter}
 use Rattle.lists.specs.Sorting.{sort_count, sort_map, sort_sorted}
 use Rattle.lists.specs.Parts.{win, put, length_win, length_put, win_add, win_all, win_put_at, win_put_left, win_put_right, lent}
 use Rattle.paper.specs.declared.Segment.{Segment}
-use Rattle.paper.specs.Words.{Axis, End, stays, lefts, rights, queue_words, block_words}
+use Rattle.paper.specs.declared.Descriptor.{Descriptor}
+use Rattle.paper.specs.Words.{Axis, End, horizontal, vertical, stays, lefts, rights, queue_words, block_words}
 use Rattle.records.specs.Records.{records_of, key_order}
 use Rattle.records.specs.KeyOrders.{one_key_carried}
-use Rattle.build_queue.specs.Ends.{axis_of}
+use Rattle.axes.specs.declared.Axis as axes
+use Rattle.axes.specs.declared.Axis.TheVariants.{Horizontal, Vertical}
+use Rattle.axes.specs.declared.Word.TheVariants.{X1, Y1}
+use Rattle.axes.specs.Axes.{level_of, axis_of}
+use Rattle.build_queue.specs.Ends.{records_in, axis_in}
 use Rattle.build_queue.specs.declared.Ends.{Ends}
 use Rattle.build_queue.specs.Runs.{named, Stands, back_named, stands, part_front}
 use Rattle.build_queue.specs.Queues.{lower, lower_linear, queue_length, queue_same}
@@ -25,15 +30,13 @@ use Rattle.build_block.specs.Spreading.{Spread}
 use Rattle.build_block.specs.declared.Division.{Division}
 
 -- words of positions by (level, position)
-abbrev pub by_level : List ℤ → Ends → List ℤ → List ℤ
-by_level table ends words = sort (key_order table (record { key = ends.level; level = ends.level; d = ends.d })) words
+abbrev pub by_level : Ends → List ℤ → List ℤ
+by_level ends words = sort (key_order ends.marks.cells.now ends.marks.descriptor (level_of ends.axis) (level_of ends.axis)) words
 
-pub by_level_is : (table : List ℤ) (ends : Ends) (qs : List ℕ) → by_level table ends (map pos qs) ≡ map pos (sort (lower (records_of ends.d table) (axis_of ends)) qs)
-by_level_is table ends qs =
-    sym
-    (sort_map pos (lower (records_of ends.d table) (axis_of ends)) (key_order table (record { key = ends.level; level = ends.level; d = ends.d }))
-    (one_key_carried table ends.d ends.level)
-    qs)
+by_level_is : (table : List ℤ) (d : Descriptor) (axis : axes.Axis) (qs : List ℕ)
+    → sort (key_order table d (level_of axis) (level_of axis)) (map pos qs) ≡ map pos (sort (lower (records_of d table) (axis_of axis)) qs)
+by_level_is table d Horizontal qs = sym (sort_map pos (lower (records_of d table) horizontal) (key_order table d Y1 Y1) (one_key_carried table d Y1) qs)
+by_level_is table d Vertical qs = sym (sort_map pos (lower (records_of d table) vertical) (key_order table d X1 X1) (one_key_carried table d X1) qs)
 
 module _ (rs : List Segment) (axis : Axis) where
   abbrev centred : (ℤ → List ℕ → List ℕ) → List ℕ → List ℕ
@@ -254,15 +257,15 @@ module _ (rs : List Segment) (axis : Axis) where
               ∙ rw (p₀, p₁, p₂, p₃, p₄, p₅, g₁, g₂) (sym (block_cons rs axis tidy ps (omega arith)))
 
 -- a division and its spreading
-pub prepared : (table : List ℤ) (ends : Ends) (ps : List ℕ) (ys zs : List ℤ) (m : ℕ) (r : Division) → length ps ≡ m
-    → Divided (records_of ends.d table) (axis_of ends) ps ys r
-    → Spread (by_level table ends (win 0 r.stay ys)) r.centre m r.stay r.cut ys zs
-    → Prepared (records_of ends.d table) (axis_of ends) ps zs r
-prepared table ends ps ys zs m r size D S =
-    let rs = records_of ends.d table in
-    let axis = axis_of ends in
-    let is : by_level table ends (win 0 r.stay ys) ≡ map pos (sort (lower rs axis) (stays rs axis (centre_at rs axis ps) ps)) =
-    ap (by_level table ends) D.stays_in ∙ by_level_is table ends (stays rs axis (centre_at rs axis ps) ps) in
+pub prepared : (ends : Ends) (ps : List ℕ) (ys zs : List ℤ) (m : ℕ) (r : Division) → length ps ≡ m
+    → Divided (records_in ends) (axis_in ends) ps ys r
+    → Spread (by_level ends (win 0 r.stay ys)) r.centre m r.stay r.cut ys zs
+    → Prepared (records_in ends) (axis_in ends) ps zs r
+prepared ends ps ys zs m r size D S =
+    let rs = records_in ends in
+    let axis = axis_in ends in
+    let is : by_level ends (win 0 r.stay ys) ≡ map pos (sort (lower rs axis) (stays rs axis (centre_at rs axis ps) ps)) =
+    ap (by_level ends) D.stays_in ∙ by_level_is ends.marks.cells.now ends.marks.descriptor ends.axis (stays rs axis (centre_at rs axis ps) ps) in
     record {
       stay = D.stay;
       left = D.left;

@@ -6,3 +6,5 @@ pub mod Separating
 pub mod Dividing
 pub mod Spreading
 pub mod Joining
+pub mod Fronts
+pub mod Straight

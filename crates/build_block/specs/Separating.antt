@@ -6,10 +6,18 @@ use Rattle.std.proofs.Common.{ap₂, ◌∙◌, add-one, length-set}
 use mathlib.Core.List.{List, [], ◌∷◌}
 use native.Mathlib.Omega.{arith}
 use Rattle.std.proofs.Math.ListN.{length}
-use Rattle.lists.specs.Plain.{filter}
+use Rattle.std.specs.Int.Signed.{lt_z}
+use Rattle.lists.specs.Plain.{to_nat, filter}
 use Rattle.lists.specs.Counting.{filter_length, count_parts}
 use Rattle.lists.specs.Filters.{filter_yes, filter_no}
+use Rattle.paper.specs.Words.{far_of}
+use Rattle.build_queue.specs.Ends.{records_in, axis_in}
+use Rattle.build_queue.specs.declared.Ends.{Ends}
 use Rattle.lists.specs.Parts.{win, put, length_win, length_put, win_cons, win_set, win_put_left, put_one, put_step, put_nil, put_swap}
+
+-- whether the position that a word stands for ends before the centre
+abbrev pub goes_left : Ends → ℤ → ℤ → Bool
+goes_left ends centre z = lt_z (far_of (records_in ends) (axis_in ends) (to_nat z)) centre
 
 module _ (goes : ℤ → Bool) where
   abbrev stayed : ℤ → Bool

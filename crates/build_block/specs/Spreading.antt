@@ -1,9 +1,11 @@
 -- From the three runs of a division to all of a block but its queues and child blocks: header, the runs of both queues by (level, position), zeros.
 -- Use: `Spread` is what stands where; `chained` proves it from what the sort, the two copies, the zeros and the header leave. Assumes nothing.
 use Rattle.std.specs.Prelude.{◌≡◌, refl, List, ℕ, ◌+◌, ◌-◌, ◌*◌, ◌≤◌, ◌<◌, ℤ, pos, length, replicate}
-use Rattle.std.proofs.Common.{◌∙◌, arith}
+use Rattle.std.proofs.Common.{ap₂, ◌∙◌, arith}
 use Rattle.std.proofs.lemmas.List.{length-replicate}
-use Rattle.lists.specs.Parts.{win, put, length_win, length_put, length_copy, win_put_at, win_put_left, win_put_right}
+use Rattle.std.specs.List.{copy_within}
+use borrow.Rule.Slice.PartMut.{put_mid}
+use Rattle.lists.specs.Parts.{win, put, copied, lent, length_win, length_put, length_copy, win_put_at, win_put_left, win_put_right}
 use Rattle.build_block.specs.Blocks.{header}
 
 -- of m, a stay and b stay or go left; S are the words of those that stay, in the order of their queues
@@ -100,11 +102,13 @@ module _ (S scratch : List ℤ) (centre : ℤ) (m a b : ℕ) (xs : List ℤ) (so
   }
 
   -- what the calls leave, one after the other
-  pub chained : (v₁ v₂ v₃ v₄ v₅ : List ℤ) → v₁ ≡ y₁ → v₂ ≡ put (4 + 2 * a) (win 0 a v₁) v₁ → v₃ ≡ put 4 (win 0 a v₂) v₂ → v₄ ≡ put (4 + 4 * a) Z v₃ → v₅ ≡ put 0 H v₄
+  pub chained : (v₁ v₂ v₃ zeros v₅ : List ℤ) → v₁ ≡ y₁ → v₂ ≡ copy_within v₁ 0 a (4 + 2 * a) → v₃ ≡ copy_within v₂ 0 a 4
+      → zeros ≡ replicate (8 * a - (4 + 4 * a)) (pos 0) → v₅ ≡ put 0 H (put_mid (4 + 4 * a) (8 * a - (4 + 4 * a)) v₃ zeros)
       → Spread S centre m a b xs v₅
-  chained v₁ v₂ v₃ v₄ v₅ e₁ e₂ e₃ e₄ e₅ =
-      let f₂ : v₂ ≡ y₂ = rw e₁ at e₂ in
-      let f₃ : v₃ ≡ y₃ = rw f₂ at e₃ in
-      let f₄ : v₄ ≡ y₄ = rw f₃ at e₄ in
+  chained v₁ v₂ v₃ zeros v₅ e₁ e₂ e₃ e₄ e₅ =
+      let z : a ≡ 0 + a = omega arith in
+      let f₂ : v₂ ≡ y₂ = e₂ ∙ ap₂ (λ v i. copy_within v 0 i (4 + 2 * a)) e₁ z ∙ copied 0 (4 + 2 * a) a y₁ (omega (arith, l₁)) in
+      let f₃ : v₃ ≡ y₃ = e₃ ∙ ap₂ (λ v i. copy_within v 0 i 4) f₂ z ∙ copied 0 4 a y₂ (omega (arith, l₂)) in
+      let f₄ : put_mid (4 + 4 * a) (8 * a - (4 + 4 * a)) v₃ zeros ≡ y₄ = rw (f₃, e₄) (lent (4 + 4 * a) n y₃ Z ZL) in
       let f₅ : v₅ ≡ y₅ = rw f₄ at e₅ in
       rw f₅ all_there

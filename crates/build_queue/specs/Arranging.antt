@@ -1,7 +1,8 @@
 -- How the moves of `arrange` bring one word to the front, and the others to the fronts of their queues' words. Assumes nothing.
 use Rattle.std.specs.Prelude.{◌≡◌, List, [], ◌∷◌, ◌++◌, ℕ, suc, ◌+◌, ◌-◌, ◌*◌, ◌≤◌, ◌<◌, ℤ, pos, length, get_or, set, take, drop}
 use Rattle.std.proofs.Common.{sym, ap, ◌∙◌, arith, length-set, get_or-set_same, take-take, take-add, drop_at, length-take-le}
-use Rattle.lists.specs.Parts.{win, put, length_win, length_copy, win_add, win_put_at, win_put_left, win_put_right, put_one, get_d_put_left, take_win, drop_win}
+use Rattle.std.specs.List.{copy_within}
+use Rattle.lists.specs.Parts.{win, put, copied, length_win, length_copy, win_add, win_put_at, win_put_left, win_put_right, put_one, get_d_put_left, take_win, drop_win}
 use Rattle.build_queue.specs.Taking.{without}
 use Rattle.build_queue.specs.Parting.{Arranged}
 
@@ -71,10 +72,15 @@ module _ (xs : List ℤ) (b left right : ℕ) (hb : b < 1 + left + right) (long 
         ∙ ap (drop left) rest;
   }
 
-  -- what the calls ensure, one after the other
-  pub chained : (m : ℤ) (y₁ y₃ y₄ : List ℤ) → m ≡ get_or xs b (pos 0) → y₁ ≡ x₁
-      → y₃ ≡ put (2 + 2 * left) (win (1 + left) right (set y₁ 0 m)) (set y₁ 0 m) → y₄ ≡ put 2 (win 1 left y₃) y₃
+  -- what the statements leave, one after the other
+  pub chained : (m : ℤ) (y₁ y₃ y₄ : List ℤ) → m ≡ get_or xs b (pos 0) → y₁ ≡ copy_within xs 0 b 1
+      → y₃ ≡ copy_within (set y₁ 0 m) (1 + left) (1 + left + right) (2 * (1 + left)) → y₄ ≡ copy_within y₃ 1 (1 + left) 2
       → Arranged xs y₄ b left right
   chained m y₁ y₃ y₄ e e₁ e₃ e₄ =
-      let f : y₄ ≡ x₄ = cc in
-      rw f arranged
+      let none : 0 + b ≡ b = omega arith in
+      let two : 2 * (1 + left) ≡ 2 + 2 * left = omega arith in
+      let f₁ : y₁ ≡ x₁ = e₁ ∙ ap (λ i. copy_within xs 0 i 1) (sym none) ∙ copied 0 1 b xs (omega arith) in
+      let f₂ : set y₁ 0 m ≡ x₂ = rw (f₁, e) in
+      let f₃ : y₃ ≡ x₃ = (rw (f₂, two) at e₃) ∙ copied (1 + left) (2 + 2 * left) right x₂ (omega (arith, l₂)) in
+      let f₄ : y₄ ≡ x₄ = (rw f₃ at e₄) ∙ copied 1 2 left x₃ (omega (arith, l₃)) in
+      rw f₄ arranged

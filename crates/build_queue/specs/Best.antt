@@ -1,24 +1,17 @@
 -- The one that a queue takes, sought from the front of positions that stand by (level, position): there a strictly better key alone decides, since of
 -- equal keys the earlier place comes first.
 -- Use: `Best` is what the search finds; `Seen` holds while it goes on (`seen_first`, `seen_better`, `seen_kept`). For every axis and either end. Assumes nothing.
-use Rattle.std.specs.Prelude.{◌≡◌, Bool, true, false, not, ◌&&◌, List, [], ◌∷◌, ℕ, zero, suc, ◌+◌, ◌≤◌, ◌<◌, T, ℤ, length, get_or, take}
+use Rattle.std.specs.Prelude.{◌≡◌, Bool, true, false, not, ◌&&◌, List, [], ◌∷◌, ℕ, ◌+◌, ◌≤◌, ◌<◌, T, ℤ, length, get_or, take}
 use Rattle.std.proofs.Common.{subst, add-one, arith, take-suc, take_all}
 use Rattle.std.specs.Int.Signed.{lt_z}
 use Rattle.lists.specs.Plain.{same}
 use Rattle.lists.specs.Tests.{yes_not}
 use Rattle.lists.specs.Orders.{up_to, le_self}
-use Rattle.lists.specs.Every.{All, all_map, all_append, all_get_d, Sorted}
+use Rattle.lists.specs.Every.{All, all_map, all_append, sorted_get_d}
 use Rattle.lists.specs.Sorting.{InOrder}
 use Rattle.paper.specs.declared.Segment.{Segment}
 use Rattle.paper.specs.Words.{Axis, End, near_of, far_of, taken_before}
 use Rattle.build_queue.specs.Queues.{lower, taken_linear}
-
--- a sorted list's element stands in the relation to each later one
-sorted_at : {A : Type 0} {R : A → A → Type 0} (d : A) (i j : ℕ) {l : List A} → Sorted R l → i < j → j < length l → R (get_or l i d) (get_or l j d)
-sorted_at d i zero s h k = absurd (omega arith)
-sorted_at d i (suc j) Sorted.none h k = absurd (omega arith)
-sorted_at d zero (suc j) (Sorted.next a s) h k = all_get_d j d (omega arith) a
-sorted_at d (suc i) (suc j) (Sorted.next a s) h k = sorted_at d i j s (omega arith) (omega arith)
 
 -- the key of an end, and whether one key is taken before another
 abbrev pub key_at : List Segment → Axis → End → ℕ → ℤ
@@ -87,7 +80,7 @@ module _ (rs : List Segment) (axis : Axis) (end : End) where
     seen_kept stands h = record {
       some = omega (arith, seen.some);
       within = omega arith;
-      least = one_more ps i (get_or ps b 0) more seen.least (later (get_or ps b 0) (get_or ps i 0) h (sorted_at 0 b i stands seen.some more));
+      least = one_more ps i (get_or ps b 0) more seen.least (later (get_or ps b 0) (get_or ps i 0) h (sorted_get_d b i 0 seen.some more stands));
     }
 
   pub seen_all : (ps : List ℕ) (b i : ℕ) → Seen ps b i → length ps ≤ i → Best ps b

@@ -6,6 +6,7 @@ use Rattle.std.proofs.Common.{ap, ◌∙◌, arith, length-drop}
 use mathlib.Core.List.{List, [], ◌∷◌, ◌++◌}
 use Prim.Native.Nat.{ℕ, zero, suc, ◌+◌, ◌-◌, ◌*◌, ◌≤◌, ◌<◌}
 use Rattle.std.proofs.Math.ListN.{length-append}
+use Rattle.std.proofs.lemmas.List.{get_or_default}
 use Rattle.lists.specs.Plain.{first_half, second_half, last, count, by, insert, sort}
 use Rattle.lists.specs.Orders.{Linear, up_to, ltb_linear, by_linear, greatest_linear}
 use Rattle.lists.specs.Counting.{count_length}
@@ -13,12 +14,6 @@ use Rattle.lists.specs.Halves.{first_length, second_length}
 use Rattle.lists.specs.Sorting.{sort_length, sort_same}
 use Rattle.paper.specs.declared.Segment.{Segment}
 use Rattle.paper.specs.Words.{Axis, End, near_of, far_of, level_of, taken_before, split_of, queue_words_to, queue_words}
-
--- which default is given does not matter within a list
-pub within_any : {A : Type 0} (l : List A) (i : ℕ) (d e : A) → i < length l → get_or l i d ≡ get_or l i e
-within_any [] i d e h = absurd (omega arith)
-within_any (x ∷ l) zero d e h = refl
-within_any (x ∷ l) (suc i) d e h = within_any l i d e (omega arith)
 
 module _ (rs : List Segment) (axis : Axis) where
   -- by (level, position)
@@ -80,7 +75,7 @@ module _ (rs : List Segment) (axis : Axis) (end : End) where
   queue_cons (p ∷ ps) h =
       let l = enough (length ps) (length (lefts (p ∷ ps))) (lefts (p ∷ ps)) (omega (arith, sizes p ps)) (omega arith) in
       let r = enough (length ps) (length (rights (p ∷ ps))) (rights (p ∷ ps)) (omega (arith, sizes p ps)) (omega arith) in
-      let t = within_any (sort (taken_before rs axis end) (p ∷ ps)) 0 p 0 (omega (arith, sort_length (taken_before rs axis end) (p ∷ ps))) in
+      let t = get_or_default (sort (taken_before rs axis end) (p ∷ ps)) 0 p 0 (omega (arith, sort_length (taken_before rs axis end) (p ∷ ps))) in
       rw (l, r, t)
 
   -- a queue of one

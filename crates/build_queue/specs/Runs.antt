@@ -1,8 +1,8 @@
 -- A run of position words, and the positions that they name; a part of a list that is lent, and the run at its front.
--- Use: contracts say `named (take s (now part))` for the positions at the front of a part, and ask that the words `Stand` in an order; `stands` makes that of positions in order.
+-- Use: contracts say `named (front part.old)` for the positions at the front of a queue's words, and ask that the words `Stand` in an order; `stands` makes that of positions in order.
 -- `part_length`, `part_take` and `part_front` are for what the borrow checker gives for `&mut s[a..e]`. Assumes nothing.
-use Rattle.std.specs.Prelude.{◌≡◌, List, map, ℕ, ◌+◌, ◌≤◌, ℤ, pos, length, take, drop}
-use Rattle.std.proofs.Common.{sym, ap, subst, ◌∙◌, map-id, take-take}
+use Rattle.std.specs.Prelude.{◌≡◌, List, map, ℕ, ◌+◌, ◌*◌, ◌/◌, ◌≤◌, ℤ, pos, length, take, drop}
+use Rattle.std.proofs.Common.{sym, ap, subst, ◌∙◌, arith, map-id, take-take}
 use Rattle.std.proofs.lemmas.Simd.{map-map}
 use Rattle.lists.specs.Plain.{to_nat}
 use Rattle.lists.specs.Every.{Sorted}
@@ -25,6 +25,21 @@ stands up words ps e o = record {
   plain = ap (λ k. map pos (named k)) e ∙ ap (map pos) (back_named ps) ∙ sym e;
   order = subst (Sorted up) (sym (ap named e ∙ back_named ps)) o;
 }
+
+-- ---- a queue's words, at the front of which stand its positions, one for two words
+abbrev pub front : List ℤ → List ℤ
+front xs = take (length xs / 2) xs
+
+-- a part of 2 · s words with a run of s at its front
+module _ (s : ℕ) (xs : List ℤ) (long : length xs ≡ 2 * s) where
+  half_is : length xs / 2 ≡ s
+  half_is = omega (arith, long)
+
+  pub front_is : front xs ≡ take s xs
+  front_is = rw half_is
+
+  pub fronted : (up : ℕ → ℕ → Type 0) → Stands up (take s xs) → (length xs ≡ 2 * (length xs / 2)) × Stands up (front xs)
+  fronted up run = (omega (arith, long), rw front_is run)
 
 -- ---- a part that is lent
 

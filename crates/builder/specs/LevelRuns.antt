@@ -22,11 +22,12 @@ use Rattle.paper.specs.Descriptor.{at}
 use Rattle.paper.specs.declared.Descriptor.{Descriptor}
 use Rattle.paper.specs.declared.Segment.{Segment}
 use Rattle.paper.specs.Words.{L, low_x, low_y, x_order, slots, levels_words, is_horizontal, horizontals, verticals, horizontal, vertical, block_words}
+use Rattle.axes.specs.declared.Word.TheVariants.{X1, Y1}
 use Rattle.records.specs.Records.{records_of, key_order}
 use Rattle.records.specs.KeyOrders.{smallest_carried, one_key_carried, key_linear}
 use Rattle.levels.specs.Raising.{raised, raised_counts, stack, raised_length, counts_length, stack_length}
 use Rattle.levels.specs.Rows.{rows, along_here, sort_none, rows_length, rows_last, raised_rows}
-use Rattle.levels.specs.Levels.{low_keys, x_words, levels_are}
+use Rattle.levels.specs.Levels.{x_words, levels_are}
 use Rattle.build_block.specs.Sides.{Tidy, Nearer}
 use Rattle.build_block.specs.Blocks.{block_same}
 
@@ -44,13 +45,13 @@ module _ (d : Descriptor) (table : List ℤ) where
   low = by (low_y rs) ltb
 
   abbrev key : ℤ → ℤ → Bool
-  key = key_order table (low_keys d 1)
+  key = key_order table d Y1 Y1
 
   order_length : length order ≡ n
   order_length = sort_length (by (low_x rs) low) (positions n) ∙ positions_length n
 
   words_are : map pos order ≡ x_words d table
-  words_are = sort_map pos (by (low_x rs) low) (key_order table (low_keys d 0)) (smallest_carried table d 0 1) (positions n)
+  words_are = sort_map pos (by (low_x rs) low) (key_order table d X1 Y1) (smallest_carried table d X1 Y1) (positions n)
 
   row_length : (e : ℕ) → length (map pos (rows low e order)) ≡ n
   row_length e = length-map (rows low e order) pos ∙ rows_length low e order ∙ order_length
@@ -64,7 +65,7 @@ module _ (d : Descriptor) (table : List ℤ) where
       let counted : length (raised_counts key e ws) ≡ n = counts_length key e ws ∙ row_length (suc e) in
       let long : length up ≡ 2 * n * (e + 1) = stack_length key n e (raised key e ws) (raised_counts key e ws) (raised_length key e ws ∙ row_length (suc e)) counted in
       win_front 0 n up (ws ++ cs) (room e long)
-      ∙ ap (λ w. win 0 n (stack key e w (raised_counts key e ws))) (raised_rows low key (one_key_carried table d 1) (key_linear table (low_keys d 1)) e order)
+      ∙ ap (λ w. win 0 n (stack key e w (raised_counts key e ws))) (raised_rows low key (one_key_carried table d Y1) (key_linear table d Y1 Y1) e order)
       ∙ first_words e (raised_counts key e ws) counted
     where
       room : (e : ℕ) {k : ℕ} → k ≡ 2 * n * (e + 1) → 0 + n ≤ k

@@ -1,107 +1,80 @@
 // The builder: every word of the index of a table that no answer refuses, written in place in the lent buffer.
-// `build_words` lends the parts of the buffer on: records, levels, then the blocks behind the levels that their runs are taken from.
+// `build_words` lends the parts of the buffer on: records, levels, then the blocks, whose runs are taken from the levels.
 #![tactic(auto)]
 
-ghost use Rattle.std.specs.Prelude.{◌≡◌, cond, ◌∷◌, [], ◌++◌, ℕ, ◌+◌, ◌-◌, ◌*◌, ◌≤◌, ◌<◌, pos, length};
+ghost use Rattle.std.specs.Prelude.{◌≡◌, ◌∷◌, [], ◌++◌, ℕ, ◌+◌, ◌*◌, ◌≤◌, ◌<◌, pos, length};
 ghost use Rattle.lists.specs.Plain.{filter};
-ghost use Rattle.lists.specs.Parts.{win, put};
+ghost use Rattle.lists.specs.Parts.{put};
 ghost use Rattle.paper.specs.Descriptor.{size_of, segments_of, first_number};
 ghost use Rattle.paper.specs.Results.{over};
-ghost use Rattle.paper.specs.Words.{L, horizontals, levels_words, index_words};
-ghost use Rattle.records.specs.Records.{Readable, records_of};
-ghost use Rattle.builder.specs.Placing.{is_level, is_upright, blocks_of};
+ghost use Rattle.paper.specs.Words.{horizontals, levels_words, index_words};
+ghost use Rattle.records.specs.Records.{records_of};
+ghost use Rattle.build_queue.specs.Ends.{records_in};
+ghost use Rattle.builder.specs.Placing.{is_level, belongs, blocks_of};
 ghost use Rattle.builder.specs.Whole.{Accepted};
 
+use axes::{Axis, Word};
 use build_block::block;
 use build_queue::Ends;
 use levels::{all_levels, write_records};
-use paper::Descriptor;
-use records::{as_word, field};
+use records::{Straight, as_word};
 
 // Whether the record of the position that p stands for is horizontal.
-fn is_level(table: &[i32], d: Descriptor, p: i32) -> bool
-    requires { Readable table.now d }
-    ensures { result ≡ is_level d table.now p }
+fn is_level(marks: Straight, p: i32) -> bool
+    ensures { result ≡ is_level marks.entry.descriptor marks.entry.cells.now p }
 {
-    let low = field(table, d, p, 1);
-    let high = field(table, d, p, 3);
-    (low <= high) & (high <= low)
+    marks.word(p, Word::Y1) == marks.word(p, Word::Y2)
 }
 
-// Whether a position belongs to the block of the horizontals, or if `upright` to that of the verticals.
-fn belongs(table: &[i32], d: Descriptor, upright: bool, p: i32) -> bool
-    requires { Readable table.now d }
-    ensures { result ≡ cond upright (is_upright d table.now p) (is_level d table.now p) }
+// Whether a position belongs to the block of the axis: the horizontals to the one, all others to the other.
+fn belongs(ends: Ends, p: i32) -> bool
+    ensures { result ≡ belongs ends.entry p }
 {
-    let level = is_level(table, d, p);
-    if upright {
-        return !level;
+    let level = is_level(ends.marks, p);
+    match ends.axis {
+        Axis::Horizontal => level,
+        Axis::Vertical => !level,
     }
-    level
 }
 
-// Those of the n position words at `from` that belong to a block, in their order, at the place `to` after them. Returns their count.
-fn gather(
-    table: &[i32],
-    d: Descriptor,
-    upright: bool,
-    part: &mut [i32],
-    from: usize,
-    n: usize,
-    to: usize,
-) -> usize
-    requires readable { Readable table.now d }
-    requires n_bound { (from + n ≤ to) × (to + length (filter (λ z. cond upright (is_upright d table.now z) (is_level d table.now z)) (win from n part.old)) ≤ length part.old) }
-    ensures value { result ≡ length (filter (λ z. cond upright (is_upright d table.now z) (is_level d table.now z)) (win from n part.old)) }
-    ensures part_after { part.new ≡ put to (filter (λ z. cond upright (is_upright d table.now z) (is_level d table.now z)) (win from n part.old)) part.old }
+// Those of a run that belong to the block of the axis, in their order, to the front of the block's words. Returns their count.
+fn gather(ends: Ends, run: &[i32], words: &mut [i32]) -> usize
+    requires { length (filter (belongs ends) run.now) ≤ length words.old }
+    ensures value { result ≡ length (filter (belongs ends.entry) run.now) }
+    ensures words_after { words.new ≡ over (filter (belongs ends.entry) run.now) words.old }
 {
-    let mut o = to;
-    let mut i = 0;
-    while i < n {
-        let p = part[from + i];
-        if belongs(table, d, upright, p) {
-            part[o] = p;
-            o += 1;
+    let mut count = 0;
+    for p in run {
+        if belongs(ends, *p) {
+            words[count] = *p;
+            count += 1;
         }
-        i += 1;
     }
-    o - to
+    count
 }
 
-// Both blocks, behind the levels that stand at the front of the part; the last level begins at `last`. Level 0 has the positions by y, the last level by x, so
-// that the run of each block is taken from one of them in the order that it asks. Returns the count of horizontals.
-fn write_blocks(table: &[i32], d: Descriptor, part: &mut [i32], n: usize, last: usize) -> usize
-    requires readable { Readable table.now d }
-    requires n_value { (n ≡ size_of d) × (last ≡ 2 * n * L (n - 1)) × (length part.old ≡ last + 2 * n + 8 * n) × (win 0 (last + 2 * n) part.old ≡ levels_words (records_of d table.now)) }
-    ensures value { result ≡ length (horizontals (records_of d table.now)) }
-    ensures part_after { part.new ≡ levels_words (records_of d table.now) ++ blocks_of d table.now }
+// Both blocks. Level 0 has the positions by y, the last level by x, so that the run of each block is taken from one of them in the order that it asks.
+// Returns the count of horizontals.
+fn write_blocks(marks: Straight, levels: &[i32], words: &mut [i32]) -> usize
+    requires { (levels.now ≡ levels_words (records_of marks.descriptor marks.cells.now)) × (length words.old ≡ 8 * size_of marks.descriptor) }
+    ensures value { result ≡ length (horizontals (records_of marks.entry.descriptor marks.entry.cells.now)) }
+    ensures words_after { words.new ≡ blocks_of marks.entry.descriptor marks.entry.cells.now }
 {
-    let start = last + 2 * n;
-    let h = gather(table, d, false, part, last, n, start);
-    let middle = start + 8 * h;
-    gather(table, d, true, part, 0, n, middle);
-    block(
-        table,
-        Ends {
-            near: 0,
-            far: 2,
-            level: 1,
-            d: d,
-        },
-        &mut part[start..middle],
-        h,
-    );
-    block(
-        table,
-        Ends {
-            near: 1,
-            far: 3,
-            level: 0,
-            d: d,
-        },
-        &mut part[middle..],
-        n - h,
-    );
+    let across = Ends {
+        marks,
+        axis: Axis::Horizontal,
+    };
+    let upright = Ends {
+        marks,
+        axis: Axis::Vertical,
+    };
+    let n = marks.count();
+    let last = levels.len() - 2 * n;
+    let h = gather(across, &levels[last..last + n], words);
+    let (first, second) = words.split_at_mut(8 * h);
+    gather(upright, &levels[..n], second);
+    block(across, first);
+    block(upright, second);
     h
 }
 
@@ -110,36 +83,23 @@ fn put_header(index: &mut [i32], n: usize, first: i32, horizontals: usize, verti
     requires { (4 ≤ length index.old) × (n < 2147483648) × (horizontals < 2147483648) × (verticals < 2147483648) }
     ensures { index.new ≡ put 0 (pos n ∷ first ∷ pos horizontals ∷ pos verticals ∷ []) index.old }
 {
-    index[0] = as_word(n);
-    index[1] = first;
-    index[2] = as_word(horizontals);
-    index[3] = as_word(verticals);
+    index[..4].copy_from_slice(&[as_word(n), first, as_word(horizontals), as_word(verticals)]);
 }
 
-// The number of the last level.
-fn depth(n: usize) -> usize
-    ensures { result ≡ L (n - 1) }
+/// Every word of the index. The words after them keep their values.
+pub fn build_words(marks: Straight, index: &mut [i32])
+    requires { Accepted marks.descriptor index.old }
+    ensures { index.new ≡ over (index_words (first_number marks.entry.descriptor.kind marks.entry.descriptor.lower) (segments_of marks.entry.descriptor marks.entry.cells.now)) index.old }
 {
-    if n == 0 {
-        return 0;
-    }
-    table::digits(n - 1)
-}
-
-// Every word of the index. The words after them keep their values.
-pub fn build_words(table: &[i32], d: Descriptor, index: &mut [i32])
-    requires { Accepted table.now d index.old }
-    ensures { index.new ≡ over (index_words (first_number d.kind d.lower) (segments_of d table.now)) index.old }
-{
-    let n = table::count(d);
-    let deep = depth(n);
-    let first = whole::narrow(table::first_number(d));
+    let n = marks.count();
+    // the number of the last level
+    let deep = table::digits(n.saturating_sub(1));
+    let first = whole::narrow(table::first_number(marks.descriptor));
     let levels = 4 + 4 * n;
-    let last = 2 * n * deep;
-    let blocks = levels + last + 2 * n;
-    let end = blocks + 8 * n;
-    write_records(table, d, &mut index[4..levels], n);
-    all_levels(table, d, &mut index[levels..blocks], n, deep);
-    let horizontals = write_blocks(table, d, &mut index[levels..end], n, last);
+    let blocks = levels + 2 * n * deep + 2 * n;
+    write_records(marks, &mut index[4..levels], n);
+    all_levels(marks, &mut index[levels..blocks], n, deep);
+    let (before, after) = index.split_at_mut(blocks);
+    let horizontals = write_blocks(marks, &before[levels..], &mut after[..8 * n]);
     put_header(index, n, first, horizontals, n - horizontals);
 }

@@ -27,12 +27,12 @@ fn main() {
         },
         &mut index,
     );
-    if (built.number < 0) | (0 < built.number) {
+    if built.number != 0 {
         return;
     }
     if meeting::bad_window(window) {
         return;
     }
     let found = marks::query(&index, window, &mut numbers);
-    check::expect((found.number <= 0) & (0 <= found.number));
+    check::expect(found.number == 0);
 }

@@ -1,21 +1,16 @@
 -- The numbers of a line from a place on, and the form that a letter and numbers make: what the functions on fields say, put together to `line_of`.
-use Rattle.std.specs.Prelude.{◌≡◌, refl, ℕ, ◌+◌, ◌-◌, ◌≤◌, ◌<◌, leb, ℤ, length, drop, get_or}
-use Rattle.std.proofs.Common.{sym, ◌∙◌, ⊎_elim, eq-or-lt_of_le, arith, le-leb, ne_eqb, drop_of_length-le, take-suc, length-take-le}
+use Rattle.std.specs.Prelude.{◌≡◌, refl, ℕ, ◌+◌, ◌-◌, ◌≤◌, ◌<◌, leb, eqb, ℤ, pos, length, drop, set, get_or}
+use Rattle.std.proofs.Common.{sym, ◌∙◌, ⊎_elim, eq-or-lt_of_le, arith, le-leb, eq-eqb, ne_eqb, length-append, take-suc-set, add-one, drop_of_length-le, take-suc, length-take-le}
 use Rattle.std.proofs.Math.Path.{ap, subst}
 use Rattle.std.proofs.Math.Bool.{cond}
-use mathlib.Core.List.{List, [], ◌∷◌, ◌++◌, append-nil}
+use mathlib.Core.List.{List, [], ◌∷◌, ◌++◌, append_assoc, append-nil}
 use Rattle.std.proofs.Math.Option.{Option, none, some}
 use Rattle.std.proofs.Math.Nat.{sub-zero}
 use Rattle.std.proofs.lemmas.Bool.{lt-leb}
 use Rattle.std.proofs.Math.ListN.{take}
-use Rattle.paper.specs.Lines.{letter_T, letter_S, letter_W, Line, table, segment, window, other, tab, parts, fields_of, number_in, also, numbers_in, two, four, as_table, as_segment, as_window, form_of, by_fields, line_of}
+use Rattle.paper.specs.Lines.{letter_T, letter_S, letter_W, Line, table, segment, window, other, tab, parts, fields_of, number_in, also, numbers_in, four, as_table, as_segment, as_window, form_of, by_fields, line_of}
 use Rattle.fields.specs.Marks.{Ends, Parted, parted, some_part, ends_parts, part_rest, clear_last}
-use Rattle.fields.specs.declared.Field.{Field}
-use Rattle.fields.specs.declared.Field.TheVariants as field
-use Rattle.fields.specs.declared.Pair.{Pair}
-use Rattle.fields.specs.declared.Pair.TheVariants as pair
-use Rattle.fields.specs.declared.Four.{Four}
-use Rattle.fields.specs.declared.Four.TheVariants as fours
+use Rattle.std.specs.Prelude.{Option as Maybe, Some as is, None as no, unwrap_or}
 use Rattle.fields.specs.declared.Line.{Line as Read}
 use Rattle.fields.specs.declared.Line.TheVariants.{Table, Segment, Window, Other}
 
@@ -31,14 +26,6 @@ abbrev pub Fewer : ℕ → Option (List ℤ) → Type 0
 Fewer k none = 0 ≤ k
 Fewer k (some zs) = length zs < k
 
-fewer_up : (n : Option (List ℤ)) → Fewer 1 n → Fewer 2 n
-fewer_up none h = omega arith
-fewer_up (some zs) h = omega arith
-
-also_fewer : (z : ℤ) (n : Option (List ℤ)) → Fewer 1 n → Fewer 2 (also (some z) n)
-also_fewer z none h = omega arith
-also_fewer z (some zs) h = omega arith
-
 -- one number at least, or a field that is none
 data Some : Option (List ℤ) → Type 0 where
   no_numbers : Some none
@@ -49,36 +36,33 @@ also_some none n = no_numbers
 also_some (some z) none = no_numbers
 also_some (some z) (some zs) = numbers z zs
 
--- what the code's enums say
-abbrev pub is_field : List ℕ → ℕ → Field → Type 0
-is_field f a (field.Is z next) = numbers_from f a ≡ also (some z) (numbers_from f next)
-is_field f a field.Other = Fewer 1 (numbers_from f a)
+-- what the code's options say
+abbrev pub is_field : List ℕ → ℕ → Maybe (ℤ × ℕ) → Type 0
+is_field f a (is p) = numbers_from f a ≡ also (some p.0) (numbers_from f p.1)
+is_field f a no = Fewer 1 (numbers_from f a)
 
--- the numbers from a on are x, y and those from the place `next` on
-pub record Two (f : List ℕ) (a : ℕ) (x y : ℤ) (next : ℕ) : Type 0 where
-  pub are : numbers_from f a ≡ also (some x) (also (some y) (numbers_from f next))
+abbrev pub shown_numbers : Maybe (List ℤ) → Option (List ℤ)
+shown_numbers (is zs) = some zs
+shown_numbers no = none
 
-abbrev pub is_pair : List ℕ → ℕ → Pair → Type 0
-is_pair f a (pair.Are x y next) = Two f a x y next
-is_pair f a pair.Other = Fewer 2 (numbers_from f a)
-
-abbrev pub made_of : (ℤ → ℤ → ℤ → ℤ → Line) → Four → Line
-made_of g (fours.Are x y z w) = g x y z w
-made_of g fours.Other = other
-
-abbrev pub four_of : (ℤ → ℤ → ℤ → ℤ → Line) → Option (List ℤ) → Line
-four_of g none = other
-four_of g (some zs) = four g zs
-
-abbrev pub two_of : (ℤ → ℤ → Line) → Option (List ℤ) → Line
-two_of g none = other
-two_of g (some zs) = two g zs
+-- so many numbers, no more and no fewer
+abbrev pub exactly : ℕ → Option (List ℤ) → Option (List ℤ)
+exactly n none = none
+exactly n (some zs) = cond (eqb (length zs) n) (some zs) none
 
 abbrev pub shown_line : Read → Line
 shown_line (Table kind lower) = table kind lower
 shown_line (Segment s) = segment s
 shown_line (Window w) = window w
 shown_line Other = other
+
+abbrev pub shown_form : Maybe Read → Line
+shown_form (is l) = shown_line l
+shown_form no = other
+
+pub shown_or : (l : Maybe Read) → shown_line (unwrap_or l Other) ≡ shown_form l
+shown_or (is l) = refl
+shown_or no = refl
 
 -- ---- the fields from a place on, where the first ends
 ends_fields : (f : List ℕ) {a e : ℕ} → Ends tab f a e → parts tab (drop a f) ≡ take (e - a) (drop a f) ∷ fields_from f (e + 1)
@@ -129,69 +113,92 @@ module _ (f : List ℕ) where
       go : {fs : List (List ℕ)} → Parted fs → Some (numbers_in fs)
       go (parted l ls) = also_some (number_in l) (numbers_in ls)
 
--- ---- what the enums say of each other
-module _ (f : List ℕ) (a : ℕ) where
-  pub field_told : {r : Field} {x x' : ℤ} {i : ℕ} → r ≡ field.Is x i → x' ≡ x → is_field f a r → numbers_from f a ≡ also (some x') (numbers_from f i)
-  field_told e k h = rw k (subst (is_field f a) e h)
+-- ---- numbers one after the other
+abbrev pub after : List ℤ → Option (List ℤ) → Option (List ℤ)
+after xs none = none
+after xs (some zs) = some (xs ++ zs)
 
-  pub field_missed : {r : Field} → r ≡ field.Other → is_field f a r → Fewer 2 (numbers_from f a)
-  field_missed e h = fewer_up (numbers_from f a) (subst (is_field f a) e h)
+pub after_none : (n : Option (List ℤ)) → n ≡ after [] n
+after_none none = refl
+after_none (some zs) = refl
 
-  pub second_missed : (x : ℤ) (i : ℕ) → numbers_from f a ≡ also (some x) (numbers_from f i) → {r : Field} → r ≡ field.Other → is_field f i r → Fewer 2 (numbers_from f a)
-  second_missed x i n e h = subst (Fewer 2) (sym n) (also_fewer x (numbers_from f i) (subst (is_field f i) e h))
+after_more : (xs : List ℤ) (z : ℤ) (n : Option (List ℤ)) → after xs (also (some z) n) ≡ after (xs ++ (z ∷ [])) n
+after_more xs z none = refl
+after_more xs z (some zs) = ap (λ l. some l) (sym (append_assoc xs (z ∷ []) zs))
 
-  pub pair_told : {r : Pair} {x x' y y' : ℤ} {i : ℕ} → r ≡ pair.Are x y i → x' ≡ x → y' ≡ y → is_pair f a r → Two f a x' y' i
-  pair_told e k l h = rw (k, l) (subst (is_pair f a) e h)
+-- one number more is read, and written in its place
+pub after_set : (xs : List ℤ) (i : ℕ) {y z : ℤ} (n : Option (List ℤ)) → y ≡ z → i < length xs → after (take i xs) (also (some z) n) ≡ after (take (i + 1) (set xs i y)) n
+after_set xs i {y} {z} n e h =
+    after_more (take i xs) z n ∙ ap (λ l. after l n) (ap (λ x. take i xs ++ (x ∷ [])) (sym e) ∙ sym (take-suc-set xs i y h) ∙ ap (λ k. take k (set xs i y)) (sym (add-one i)))
 
-  pub pair_missed : {r : Pair} → r ≡ pair.Other → is_pair f a r → Fewer 2 (numbers_from f a)
-  pair_missed e h = subst (is_pair f a) e h
+exactly_is : {n : ℕ} (zs : List ℤ) → length zs ≡ n → exactly n (some zs) ≡ some zs
+exactly_is {n} zs e = rw (eq-eqb (length zs) n e) refl
 
--- ---- the forms of two and of four numbers
-pub few_two : (g : ℤ → ℤ → Line) (n : Option (List ℤ)) → Fewer 2 n → other ≡ two_of g n
-few_two g none h = refl
-few_two g (some []) h = refl
-few_two g (some (x ∷ [])) h = refl
-few_two g (some (x ∷ y ∷ zs)) h = absurd (omega arith)
+exactly_not : {n : ℕ} (zs : List ℤ) → (length zs ≡ n → ⊥) → exactly n (some zs) ≡ none
+exactly_not {n} zs e = rw (ne_eqb (length zs) n e) refl
 
-pub few_four : (g : ℤ → ℤ → ℤ → ℤ → Line) (n : Option (List ℤ)) → Fewer 2 n → other ≡ four_of g n
-few_four g none h = refl
-few_four g (some []) h = refl
-few_four g (some (x ∷ [])) h = refl
-few_four g (some (x ∷ y ∷ zs)) h = absurd (omega arith)
+pub too_few : {n : ℕ} (xs : List ℤ) (m : Option (List ℤ)) → length xs < n → Fewer 1 m → none ≡ exactly n (after xs m)
+too_few xs none h k = refl
+too_few xs (some zs) h k = sym (exactly_not (xs ++ zs) (λ e. absurd (omega (arith, length-append xs zs))))
 
--- after two numbers, four are two more
-four_two : (g : ℤ → ℤ → ℤ → ℤ → Line) (x y : ℤ) (n : Option (List ℤ)) → two_of (g x y) n ≡ four_of g (also (some x) (also (some y) n))
-four_two g x y none = refl
-four_two g x y (some zs) = refl
+too_many : {n : ℕ} (xs : List ℤ) {m : Option (List ℤ)} → length xs ≡ n → Some m → none ≡ exactly n (after xs m)
+too_many xs e no_numbers = refl
+too_many xs e (numbers z zs) = sym (exactly_not (xs ++ (z ∷ zs)) (λ d. absurd (omega (arith, length-append xs (z ∷ zs)))))
 
-two_some : (g : ℤ → ℤ → Line) (x y : ℤ) {n : Option (List ℤ)} → Some n → other ≡ two_of g (also (some x) (also (some y) n))
-two_some g x y no_numbers = refl
-two_some g x y (numbers z zs) = refl
+module _ (f : List ℕ) {n a : ℕ} (xs : List ℤ) (l : length xs ≡ n) where
+  pub as_many : length f < a → some xs ≡ exactly n (after xs (numbers_from f a))
+  as_many h = sym (ap (λ m. exactly n (after xs m)) (past_end f h) ∙ ap (λ zs. exactly n (some zs)) (append-nil xs) ∙ exactly_is xs l)
 
-module _ (f : List ℕ) {a : ℕ} {x y : ℤ} {i : ℕ} (h : Two f a x y i) where
-  module _ (g : ℤ → ℤ → Line) where
-    pub two_more : i ≤ length f → other ≡ two_of g (numbers_from f a)
-    two_more k = two_some g x y (more f k) ∙ ap (two_of g) (sym h.are)
-
-    pub two_done : length f < i → g x y ≡ two_of g (numbers_from f a)
-    two_done k = ap (λ n. two_of g (also (some x) (also (some y) n))) (sym (past_end f k)) ∙ ap (two_of g) (sym h.are)
-
-  module _ (g : ℤ → ℤ → ℤ → ℤ → Line) where
-    pub four_after : two_of (g x y) (numbers_from f i) ≡ four_of g (numbers_from f a)
-    four_after = four_two g x y (numbers_from f i) ∙ ap (four_of g) (sym h.are)
+  pub more_left : a ≤ length f → none ≡ exactly n (after xs (numbers_from f a))
+  more_left h = too_many xs l (more f h)
 
 -- ---- the letter
-pub form_T : (n : Option (List ℤ)) → two_of as_table n ≡ form_of letter_T n
-form_T none = refl
-form_T (some zs) = refl
+pub form_T : (n : Option (List ℤ)) (zs : List ℤ) → some zs ≡ exactly 2 n → as_table (get_or zs 0 (pos 0)) (get_or zs 1 (pos 0)) ≡ form_of letter_T n
+form_T none zs e = cc
+form_T (some []) zs e = cc
+form_T (some (x ∷ [])) zs e = cc
+form_T (some (x ∷ y ∷ [])) zs e = let d : zs ≡ x ∷ y ∷ [] = cc in rw d refl
+form_T (some (x ∷ y ∷ w ∷ ws)) zs e = let d = e ∙ exactly_not (x ∷ y ∷ w ∷ ws) (λ d. absurd (omega arith)) in cc
 
-pub form_S : (n : Option (List ℤ)) → four_of as_segment n ≡ form_of letter_S n
-form_S none = refl
-form_S (some zs) = refl
+pub no_form_T : (n : Option (List ℤ)) → none ≡ exactly 2 n → other ≡ form_of letter_T n
+no_form_T none e = refl
+no_form_T (some []) e = refl
+no_form_T (some (x ∷ [])) e = refl
+no_form_T (some (x ∷ y ∷ [])) e = cc
+no_form_T (some (x ∷ y ∷ w ∷ ws)) e = refl
 
-pub form_W : (n : Option (List ℤ)) → four_of as_window n ≡ form_of letter_W n
-form_W none = refl
-form_W (some zs) = refl
+module _ (g : ℤ → ℤ → ℤ → ℤ → Line) where
+  pub four_is : (ws zs : List ℤ) → some zs ≡ exactly 4 (some ws) → g (get_or zs 0 (pos 0)) (get_or zs 1 (pos 0)) (get_or zs 2 (pos 0)) (get_or zs 3 (pos 0)) ≡ four g ws
+  four_is [] zs e = cc
+  four_is (x ∷ []) zs e = cc
+  four_is (x ∷ y ∷ []) zs e = cc
+  four_is (x ∷ y ∷ z ∷ []) zs e = cc
+  four_is (x ∷ y ∷ z ∷ w ∷ []) zs e = let d : zs ≡ x ∷ y ∷ z ∷ w ∷ [] = cc in rw d refl
+  four_is (x ∷ y ∷ z ∷ w ∷ v ∷ ws) zs e = let d = e ∙ exactly_not (x ∷ y ∷ z ∷ w ∷ v ∷ ws) (λ d. absurd (omega arith)) in cc
+
+  pub four_not : (ws : List ℤ) → none ≡ exactly 4 (some ws) → other ≡ four g ws
+  four_not [] e = refl
+  four_not (x ∷ []) e = refl
+  four_not (x ∷ y ∷ []) e = refl
+  four_not (x ∷ y ∷ z ∷ []) e = refl
+  four_not (x ∷ y ∷ z ∷ w ∷ []) e = cc
+  four_not (x ∷ y ∷ z ∷ w ∷ v ∷ ws) e = refl
+
+pub form_S : (n : Option (List ℤ)) (zs : List ℤ) → some zs ≡ exactly 4 n → as_segment (get_or zs 0 (pos 0)) (get_or zs 1 (pos 0)) (get_or zs 2 (pos 0)) (get_or zs 3 (pos 0)) ≡ form_of letter_S n
+form_S none zs e = cc
+form_S (some ws) zs e = four_is as_segment ws zs e
+
+pub no_form_S : (n : Option (List ℤ)) → none ≡ exactly 4 n → other ≡ form_of letter_S n
+no_form_S none e = refl
+no_form_S (some ws) e = four_not as_segment ws e
+
+pub form_W : (n : Option (List ℤ)) (zs : List ℤ) → some zs ≡ exactly 4 n → as_window (get_or zs 0 (pos 0)) (get_or zs 1 (pos 0)) (get_or zs 2 (pos 0)) (get_or zs 3 (pos 0)) ≡ form_of letter_W n
+form_W none zs e = cc
+form_W (some ws) zs e = four_is as_window ws zs e
+
+pub no_form_W : (n : Option (List ℤ)) → none ≡ exactly 4 n → other ≡ form_of letter_W n
+no_form_W none e = refl
+no_form_W (some ws) e = four_not as_window ws e
 
 pub no_letter : (b : ℕ) (n : Option (List ℤ)) → (b ≡ letter_T → ⊥) → (b ≡ letter_S → ⊥) → (b ≡ letter_W → ⊥) → other ≡ form_of b n
 no_letter b none t s w = refl

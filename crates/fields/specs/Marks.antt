@@ -1,10 +1,17 @@
 -- The parts of a text between marks (tabs in a line, line feeds in the input): where one ends, and what is left after it.
 -- Use: `end_of` gives `Ends`; `ends_parts` makes of it the first part and the parts after it, with any text behind.
 use Rattle.std.specs.Prelude.{◌≡◌, refl, Bool, ℕ, suc, ◌+◌, ◌-◌, ◌≤◌, ◌<◌, eqb, length, take, drop, get_or}
-use Rattle.std.proofs.Common.{sym, ◌∙◌, arith, add-one, eq-eqb, ne_eqb, length-drop, take-append-drop, drop-cons, take-suc, get_or-drop, drop-drop}
+use Rattle.std.proofs.Common.{sym, ◌∙◌, arith, add-one, eq-eqb, ne_eqb, length-drop, length-take-le, take_all, take-append-drop, drop-cons, get_or-drop, drop-drop}
 use Rattle.std.proofs.Math.Path.{ap}
 use Rattle.std.proofs.Math.Bool.{true, false, cond}
 use mathlib.Core.List.{List, [], ◌∷◌, ◌++◌, append_assoc, append-nil}
+use Rattle.std.specs.Prelude.{Some, None}
+use Rattle.std.specs.List.{position, position_or_len}
+use Rattle.std.proofs.lemmas.Bool.{eqb-false, eqb-true}
+use Rattle.std.proofs.lemmas.List.{get_or-take}
+use Rattle.std.proofs.lemmas.List.Quantifiers.{position-Some}
+use Rattle.std.proofs.lemmas.List.Sums.{fails_before_first}
+use Rattle.std.proofs.lemmas.Grind.{common_steps}
 use Rattle.paper.specs.Lines.{onto, parts}
 
 -- bytes before the first of some parts
@@ -78,6 +85,11 @@ module _ (mark : ℕ) where
         ∙ before_before xs ys (parts mark zs);
   }
 
+  pub clear_all : (xs : List ℕ) → ((k : ℕ) → k < length xs → eqb (get_or xs k 0) mark ≡ false) → Clear mark xs
+  clear_all [] h = clear_nil
+  clear_all (x ∷ xs) h =
+      clear_join (clear_more clear_nil x (eqb-false x mark (h 0 (omega arith)))) (clear_all xs (λ k l. h (suc k) (omega arith)))
+
   -- clear bytes, then a mark: the first part, and the others
   pub clear_marked : {xs : List ℕ} → Clear mark xs → (x : ℕ) (ys : List ℕ) → x ≡ mark → parts mark (xs ++ (x ∷ ys)) ≡ xs ∷ parts mark ys
   clear_marked {xs} c x ys e = c.then (x ∷ ys) ∙ ap (before xs) (marked x ys e) ∙ ap (λ l. l ∷ parts mark ys) (append-nil xs)
@@ -87,15 +99,13 @@ module _ (mark : ℕ) where
   unfolding parts
   clear_last {xs} c = ap (parts mark) (sym (append-nil xs)) ∙ c.then [] ∙ ap (λ l. l ∷ []) (append-nil xs)
 
--- ---- one byte more of a part
-pub next_take : (f : List ℕ) (a i : ℕ) → a ≤ i → i < length f → take ((i + 1) - a) (drop a f) ≡ take (i - a) (drop a f) ++ (get_or f i 0 ∷ [])
-next_take f a i h l =
-    let e : (i + 1) - a ≡ suc (i - a) = omega arith in
-    let g : a + (i - a) ≡ i = omega arith in
-    ap (λ k. take k (drop a f)) e
-    ∙ take-suc (drop a f) (i - a) 0 (omega (arith, length-drop a f))
-    ∙ ap (λ x. take (i - a) (drop a f) ++ (x ∷ [])) (get_or-drop a f (i - a) 0 ∙ ap (λ k. get_or f k 0) g)
+-- where there is no first mark, there is none
+absent : (p : ℕ → Bool) (xs : List ℕ) → position p xs ≡ None → (k : ℕ) → k < length xs → p (get_or xs k 0) ≡ false
+absent p xs e k l =
+    let n : length xs ≤ position_or_len p xs = grind (arith, common_steps) in
+    fails_before_first p xs k 0 (omega arith)
 
+-- ---- the text from a part on
 -- the text from a on is the part that ends at e and what stands from e on
 pub part_rest : (f : List ℕ) (a e : ℕ) → a ≤ e → drop a f ≡ take (e - a) (drop a f) ++ drop e f
 part_rest f a e h =
@@ -103,11 +113,27 @@ part_rest f a e h =
     sym (take-append-drop (e - a) (drop a f)) ∙ ap (λ l. take (e - a) (drop a f) ++ l) (drop-drop (e - a) a f ∙ ap (λ k. drop k f) g)
 
 module _ (mark : ℕ) (f : List ℕ) where
-  pub ends_start : (a : ℕ) → Clear mark (take (a - a) (drop a f))
-  ends_start a = let e : a - a ≡ 0 = omega arith in rw e (clear_nil mark)
+  -- the part ends at the first mark, or at the end of the text where there is none
+  pub ends_found : {a : ℕ} → a ≤ length f → (k : ℕ) → Some k ≡ position (λ b. eqb b mark) (drop a f) → Ends mark f a (a + k)
+  ends_found {a} h k e =
+      let p = position-Some (λ b. eqb b mark) (drop a f) k 0 (sym e) in
+      let n : (a + k) - a ≡ k = omega arith in
+      record {
+        starts = omega arith;
+        within = omega (arith, p.0, length-drop a f);
+        clear = rw n (clear_all mark (take k (drop a f)) (λ i l.
+            let m : i < k = omega (arith, length-take-le k (drop a f) (omega (arith, p.0))) in
+            ap (λ b. eqb b mark) (get_or-take k (drop a f) i 0 m) ∙ p.2 i m));
+        stops = λ l. sym (get_or-drop a f k 0) ∙ eqb-true (get_or (drop a f) k 0) mark p.1;
+      }
 
-  pub ends_more : {a i : ℕ} → a ≤ i → i < length f → (get_or f i 0 ≡ mark → ⊥) → Clear mark (take (i - a) (drop a f)) → Clear mark (take ((i + 1) - a) (drop a f))
-  ends_more {a} {i} h l n c = rw (next_take f a i h l) (clear_more mark c (get_or f i 0) n)
+  pub ends_last : {a : ℕ} → a ≤ length f → None ≡ position (λ b. eqb b mark) (drop a f) → Ends mark f a (length f)
+  ends_last {a} h e = record {
+    starts = h;
+    within = omega arith;
+    clear = rw (take_all (length f - a) (drop a f) (omega (arith, length-drop a f))) (clear_all mark (drop a f) (absent (λ b. eqb b mark) (drop a f) (sym e)));
+    stops = λ l. absurd (omega arith);
+  }
 
   -- the parts of what stands from a on, with any text behind, where the part that starts at a ends at a mark
   pub ends_parts : {a e : ℕ} → Ends mark f a e → e < length f → (ys : List ℕ) → parts mark (drop a f ++ ys) ≡ take (e - a) (drop a f) ∷ parts mark (drop (e + 1) f ++ ys)

@@ -1,41 +1,40 @@
--- A field of a line as a number: the loops over its bytes against paper's Lines.
-use Rattle.std.specs.Prelude.{◌≡◌, refl, Bool, true, false, not, cond, ◌&&◌, ◌||◌, List, [], ◌∷◌, ℕ, zero, suc, ◌+◌, ◌-◌, ◌*◌, ◌≤◌, ◌<◌, T, eqb, leb, ℤ, pos, neg_ℤ, ◌-ℤ◌, length, drop, get_or}
-use Rattle.std.proofs.Common.{sym, ap, ap₂, ◌∙◌, subst, arith, add-one, leb-true, eq-eqb, ne_eqb, SFits, to_z, length-drop, drop_of_length-le, drop-cons}
+-- A field of a line as a number: what its bytes are, one by one, against paper's Lines.
+use Rattle.std.specs.Prelude.{◌≡◌, refl, Bool, true, false, not, ◌||◌, List, [], ◌∷◌, ℕ, zero, suc, ◌+◌, ◌-◌, ◌*◌, ◌≤◌, ◌<◌, ℤ, length, drop, get_or, slice_index, EachIndex, IsTrue, ◌↔◌}
+use Rattle.std.proofs.Common.{sym, ap, subst, arith, add-one, drop_of_length-le, drop-cons}
 use Rattle.std.proofs.Math.Option.{Option, none, some}
-use Rattle.std.proofs.Math.Dec.{eqb-suc-suc}
-use Rattle.std.proofs.Math.IntN.{+ℤ_idl}
-use Rattle.std.specs.Int.{w64}
-use Rattle.std.proofs.Math.Facts.{to_z_pos}
 use Rattle.lists.specs.Plain.{any}
-use Rattle.paper.specs.Lines.{is_digit, is_decimal, value_from, number_in}
-use Rattle.fields.specs.declared.Number.{Number}
-use Rattle.fields.specs.declared.Number.TheVariants.{Is, Other}
+use Rattle.lists.specs.Tests.{by_test}
+use Rattle.paper.specs.Lines.{is_digit, value_from}
+use Rattle.std.specs.Prelude.{Option as Maybe, Some, None}
 
--- what the code's enum says
-abbrev pub shown : Number → Option ℤ
-shown (Is z) = some z
-shown Other = none
+-- the code's option as `paper`'s
+abbrev pub shown : Maybe ℤ → Option ℤ
+shown (Some z) = some z
+shown None = none
 
 -- all bytes are digits
 abbrev pub all_digits : List ℕ → Bool
 all_digits xs = not (any (λ c. not (is_digit c)) xs)
 
-digit_step : (o x r : Bool) → ((o && x) && not r) ≡ (o && not (not x || r))
-digit_step true true r = refl
-digit_step true false r = refl
-digit_step false x r = refl
-
-and_true : (o : Bool) → (o && true) ≡ o
-and_true true = refl
-and_true false = refl
-
-pub digits_more : (f : List ℕ) (i : ℕ) (o : Bool) → i < length f → ((o && is_digit (get_or f i 0)) && all_digits (drop (i + 1) f)) ≡ (o && all_digits (drop i f))
+-- a digit at each place, or none at some place
+digits_all : (xs : List ℕ) → ((k : ℕ) → k < length xs → is_digit (get_or xs k 0) ≡ true) → all_digits xs ≡ true
 unfolding any
-digits_more f i o h = rw (add-one i, drop-cons f i 0 h) (digit_step o (is_digit (get_or f i 0)) (any (λ c. not (is_digit c)) (drop (suc i) f)))
+digits_all [] h = refl
+digits_all (x ∷ xs) h = let e = h 0 (omega arith) in rw e (digits_all xs (λ k l. h (suc k) (omega arith)))
 
-pub digits_end : (f : List ℕ) (i : ℕ) (o : Bool) → length f ≤ i → (o && all_digits (drop i f)) ≡ o
+all_parts : (d r : Bool) → not (not d || r) ≡ true → (d ≡ true) × (not r ≡ true)
+all_parts true r e = (refl, e)
+all_parts false r e = let e : false ≡ true = e in cc
+
+all_digits_at : (xs : List ℕ) → all_digits xs ≡ true → (k : ℕ) → k < length xs → is_digit (get_or xs k 0) ≡ true
 unfolding any
-digits_end f i o h = rw (drop_of_length-le f h) (and_true o)
+all_digits_at [] h k l = absurd (omega arith)
+all_digits_at (x ∷ xs) h zero l = (all_parts (is_digit x) (any (λ c. not (is_digit c)) xs) h).0
+all_digits_at (x ∷ xs) h (suc k) l = all_digits_at xs (all_parts (is_digit x) (any (λ c. not (is_digit c)) xs) h).1 k (omega arith)
+
+pub digits_told : (b : Bool) (xs : List ℕ) → (IsTrue b ↔ EachIndex xs (λ k. is_digit (slice_index xs k) ≡ true)) → b ≡ all_digits xs
+digits_told true xs e = sym (digits_all xs (e.0 refl))
+digits_told false xs e = by_test (all_digits xs) (λ t. let f : false ≡ true = e.1 (all_digits_at xs t) in cc) (λ t. sym t)
 
 -- ---- the value
 abbrev pub pow10 : ℕ → ℕ
@@ -66,87 +65,6 @@ pub value_end : (f : List ℕ) (i v : ℕ) → length f ≤ i → value_from v (
 unfolding value_from
 value_end f i v h = rw (drop_of_length-le f h) refl
 
--- ---- a decimal
-pub decimal_none : (f : List ℕ) (a : ℕ) → length f ≤ a → false ≡ is_decimal (drop a f)
-decimal_none f a h = rw (drop_of_length-le f h) refl
-
-decimal_is : (x : ℕ) (r : List ℕ) (n : ℕ) (whole : Bool) → whole ≡ all_digits (x ∷ r) → n ≡ suc (length r) → (whole && leb n 10 && (not (eqb x 48) || eqb n 1)) ≡ is_decimal (x ∷ r)
-decimal_is x r n whole e q =
-    rw (e, q) (ap (λ t. all_digits (x ∷ r) && leb (suc (length r)) 10 && (not (eqb x 48) || t)) (eqb-suc-suc (length r) 0))
-
-pub decimal_some : (f : List ℕ) (a : ℕ) {whole : Bool} → a < length f → whole ≡ all_digits (drop a f) → (whole && leb (length f - a) 10 && (not (eqb (get_or f a 0) 48) || eqb (length f - a) 1)) ≡ is_decimal (drop a f)
-decimal_some f a {whole} h e =
-    let q = drop-cons f a 0 h in
-    decimal_is (get_or f a 0) (drop (suc a) f) (length f - a) whole (e ∙ ap all_digits q) (sym (length-drop a f) ∙ ap length q) ∙ ap is_decimal (sym q)
-
--- a decimal has at most ten digits
-pub decimal_short : (f : List ℕ) (a : ℕ) → is_decimal (drop a f) ≡ true → (a ≤ length f) × (length f ≤ a + 10)
-decimal_short f a e = go (drop a f) refl e
-  where
-    and_parts : (x y z : Bool) → (x && y && z) ≡ true → y ≡ true
-    and_parts true true z h = refl
-    and_parts true false z h = absurd (subst T (sym h) tt)
-    and_parts false y z h = absurd (subst T (sym h) tt)
-
-    go : (l : List ℕ) → drop a f ≡ l → is_decimal l ≡ true → (a ≤ length f) × (length f ≤ a + 10)
-    go [] q h = absurd (subst T (sym h) tt)
-    go (x ∷ r) q h =
-        let n : length f - a ≡ suc (length r) = sym (length-drop a f) ∙ ap length q in
-        let m : suc (length r) ≤ 10 = leb-true (suc (length r)) 10 (and_parts (all_digits (x ∷ r)) (leb (suc (length r)) 10) (not (eqb x 48) || eqb (length r) 0) h) in
-        (omega (arith, n), omega (arith, n, m))
-
 -- the value stays small
-pub bound_more : (a i v x : ℕ) → a ≤ i → x ≤ 207 → v + 23 ≤ 23 * pow10 (i - a) → 10 * v + x + 23 ≤ 23 * pow10 ((i + 1) - a)
-bound_more a i v x h g b =
-    let e : (i + 1) - a ≡ (i - a) + 1 = omega arith in
-    omega (arith, b, g, ap pow10 e, pow10_next (i - a))
-
--- ---- a field
-module _ (f : List ℕ) where
-  pub field_empty : length f ≡ 0 → ◌≡◌ {A = Option ℤ} none (number_in f)
-  field_empty e = go f e
-    where
-      go : (f : List ℕ) → length f ≡ 0 → ◌≡◌ {A = Option ℤ} none (number_in f)
-      go [] e = refl
-      go (b ∷ bs) e = absurd (omega arith)
-
-  minus_form : (length f ≡ 0 → ⊥) → get_or f 0 0 ≡ 45 → number_in f ≡ cond (is_decimal (drop 1 f) && not (eqb (value_from 0 (drop 1 f)) 0)) (some (neg_ℤ (pos (value_from 0 (drop 1 f))))) none
-  minus_form n e = go f n e
-    where
-      go : (f : List ℕ) → (length f ≡ 0 → ⊥) → get_or f 0 0 ≡ 45 → number_in f ≡ cond (is_decimal (drop 1 f) && not (eqb (value_from 0 (drop 1 f)) 0)) (some (neg_ℤ (pos (value_from 0 (drop 1 f))))) none
-      go [] n e = absurd (n refl)
-      go (b ∷ bs) n e = rw (eq-eqb b 45 e) refl
-
-  plain_form : (length f ≡ 0 → ⊥) → (get_or f 0 0 ≡ 45 → ⊥) → number_in f ≡ cond (is_decimal f) (some (pos (value_from 0 f))) none
-  plain_form n e = go f n e
-    where
-      go : (f : List ℕ) → (length f ≡ 0 → ⊥) → (get_or f 0 0 ≡ 45 → ⊥) → number_in f ≡ cond (is_decimal f) (some (pos (value_from 0 f))) none
-      go [] n e = absurd (n refl)
-      go (b ∷ bs) n e = rw (ne_eqb b 45 e) refl
-
-  module _ (n : length f ≡ 0 → ⊥) where
-    pub minus_zero : get_or f 0 0 ≡ 45 → is_decimal (drop 1 f) ≡ true → value_from 0 (drop 1 f) ≡ 0 → ◌≡◌ {A = Option ℤ} none (number_in f)
-    minus_zero e d v = sym (minus_form n e ∙ ap₂ (λ x y. cond (x && not y) (some (neg_ℤ (pos (value_from 0 (drop 1 f))))) none) d (eq-eqb (value_from 0 (drop 1 f)) 0 v))
-
-    pub minus_is : get_or f 0 0 ≡ 45 → is_decimal (drop 1 f) ≡ true → (value_from 0 (drop 1 f) ≡ 0 → ⊥) → {z : ℤ} → z ≡ neg_ℤ (pos (value_from 0 (drop 1 f))) → some z ≡ number_in f
-    minus_is e d v q = ap (λ z. some z) q ∙ sym (minus_form n e ∙ ap₂ (λ x y. cond (x && not y) (some (neg_ℤ (pos (value_from 0 (drop 1 f))))) none) d (ne_eqb (value_from 0 (drop 1 f)) 0 v))
-
-    pub minus_none : get_or f 0 0 ≡ 45 → is_decimal (drop 1 f) ≡ false → ◌≡◌ {A = Option ℤ} none (number_in f)
-    minus_none e d = sym (minus_form n e ∙ ap (λ x. cond (x && not (eqb (value_from 0 (drop 1 f)) 0)) (some (neg_ℤ (pos (value_from 0 (drop 1 f))))) none) d)
-
-    pub plain_is : (get_or f 0 0 ≡ 45 → ⊥) → is_decimal (drop 0 f) ≡ true → {z : ℤ} → z ≡ pos (value_from 0 (drop 0 f)) → some z ≡ number_in f
-    plain_is e d q = ap (λ z. some z) q ∙ sym (plain_form n e ∙ ap (λ x. cond x (some (pos (value_from 0 f))) none) d)
-
-    pub plain_none : (get_or f 0 0 ≡ 45 → ⊥) → is_decimal (drop 0 f) ≡ false → ◌≡◌ {A = Option ℤ} none (number_in f)
-    plain_none e d = sym (plain_form n e ∙ ap (λ x. cond x (some (pos (value_from 0 f))) none) d)
-
--- ---- a negative value
-pub less_is : (v : ℕ) → v ≤ 230000000000 → (pos 0 -ℤ to_z w64 v) ≡ neg_ℤ (pos v)
-less_is v h = ap (λ z. pos 0 -ℤ z) (to_z_pos w64 {n = v} (omega arith)) ∙ +ℤ_idl (neg_ℤ (pos v))
-
-pub less_fits : (v : ℕ) → v ≤ 230000000000 → SFits w64 (pos 0 -ℤ to_z w64 v)
-less_fits v h = subst (SFits w64) (sym (less_is v h)) (go v h)
-  where
-    go : (v : ℕ) → v ≤ 230000000000 → SFits w64 (neg_ℤ (pos v))
-    go zero h = record { sfits = omega arith }
-    go (suc v) h = record { sfits = omega arith }
+pub bound_more : (i v x : ℕ) → x ≤ 207 → v + 23 ≤ 23 * pow10 i → 10 * v + x + 23 ≤ 23 * pow10 (i + 1)
+bound_more i v x g b = omega (arith, pow10_next i)

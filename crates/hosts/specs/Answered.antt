@@ -1,9 +1,9 @@
 -- What C hosts get, from the tests along the orders.
-use Rattle.std.specs.Prelude.{◌≡◌, refl, Bool, true, false, not, ◌||◌, [], ◌∷◌, ◌<◌, ℤ, pos, negsuc, neg_ℤ, ◌≤ℤ◌, ◌<ℤ◌}
+use Rattle.std.specs.Prelude.{◌≡◌, refl, Bool, true, false, not, ◌||◌, [], ◌∷◌, ◌<◌, ℤ, pos, negsuc, ◌≤ℤ◌, ◌<ℤ◌, Some, Result, Ok, Err}
 use Rattle.std.proofs.Common.{sym, ◌∙◌, SFits, to_z, of_z}
 use Rattle.std.proofs.Math.Path.{ap}
 use Rattle.std.proofs.Math.Bool.{cond}
-use Rattle.std.specs.Int.{w64}
+use Rattle.std.specs.Int.{w64, from_bool}
 use Rattle.std.proofs.lemmas.Int.{to_z-of_z}
 use Rattle.std.specs.Int.Signed.{le_z, lt_z}
 use Rattle.std.proofs.lemmas.Bool.{not-false}
@@ -11,8 +11,8 @@ use Rattle.whole.specs.Order.{lt_z_false, le_z_false}
 use Rattle.whole.specs.Whole.{whole}
 use Rattle.lists.specs.Plain.{within, to_nat, positions, filter}
 use Rattle.lists.specs.Tests.{or_false, within_true}
-use Rattle.paper.specs.Descriptor.{cell_of, outside_cells}
-use Rattle.paper.specs.Answers.{answer, answer_at, bad_extent, bad_strides, bad_cells, bad_place, bad_window, bad_coordinate, far_off, judged}
+use Rattle.paper.specs.Descriptor.{cell_of}
+use Rattle.paper.specs.Answers.{Answer, answer, answer_at, bad_extent, bad_strides, bad_cells, bad_place, bad_window, bad_coordinate, far_off, judged}
 use Rattle.paper.specs.Orders.{cell_order}
 use Rattle.paper.specs.Words.{W}
 use Rattle.paper.specs.Corners.{weighed}
@@ -20,7 +20,8 @@ use Rattle.paper.specs.Hosts.{refused_to_c, addressing, host_cell, host_words, h
 use Rattle.paper.specs.declared.Descriptor.{Descriptor}
 use Rattle.paper.specs.declared.Segment.{Segment}
 use Rattle.paper.specs.declared.Window.{Window}
-use Rattle.promise.specs.Calls.{number_at_cell}
+use Rattle.refusals.specs.Orders.{answer_of, first_given, first_decides}
+use Rattle.refusals.specs.declared.Refusal.{Refusal}
 use Rattle.table.specs.Cells.{Held}
 use Rattle.meeting.specs.Determined.{tested, decided, tested_is}
 
@@ -42,6 +43,18 @@ module _ {a b c d : ℤ} (fa : SFits w64 a) (fb : SFits w64 b) (fc : SFits w64 c
   pub window_given : window_of (through a) (through b) (through c) (through d) ≡ window_of a b c d
   window_given = rw (to_z-of_z w64 a fa, to_z-of_z w64 b fb, to_z-of_z w64 c fc, to_z-of_z w64 d fd) refl
 
+-- what a test said of numbers that went through 64 bits it says of them
+pub placed : (n i j : ℤ) → SFits w64 n → SFits w64 i → SFits w64 j → {b t : Bool} → b ≡ (bad_place (through n) (through i) (through j)).given → b ≡ t → (bad_place n i j).given ≡ t
+placed n i j f g h {b} {t} e k = sym (rw (to_z-of_z w64 n f, to_z-of_z w64 i g, to_z-of_z w64 j h) at e) ∙ k
+
+pub extent_through : (n : ℤ) → SFits w64 n → {b t : Bool} → b ≡ (bad_extent (through n)).given → b ≡ t → (bad_extent n).given ≡ t
+extent_through n f {b} {t} e k = sym (rw (to_z-of_z w64 n f) at e) ∙ k
+
+-- what C gets of an answer or a refusal
+abbrev pub to_c : Result ℤ Refusal → ℤ
+to_c (Ok z) = z
+to_c (Err r) = refused_to_c (answer_of r)
+
 -- ---- a cell
 abbrev pub cell_answer : ℤ → Descriptor → ℤ → ℤ → ℤ
 cell_answer len d i j = judged (cell_order len d i j) refused_to_c (cell_of d (to_nat i) (to_nat j))
@@ -50,22 +63,16 @@ pub host_cell_is : (len base n segment coordinate i j : ℤ) → host_cell len b
 unfolding host_cell
 host_cell_is len base n segment coordinate i j = refl
 
-module _ (len : ℤ) (d : Descriptor) (i j : ℤ) {r : ℤ} where
-  pub cell_3 : (bad_extent d.extent).given ≡ true → r ≡ negsuc 2 → r ≡ cell_answer len d i j
-  cell_3 a e = rw a e
-
-  pub cell_4 : (bad_extent d.extent).given ≡ false → (bad_strides d).given ≡ true → r ≡ negsuc 3 → r ≡ cell_answer len d i j
-  cell_4 a b e = rw (a, b) e
-
+module _ (len : ℤ) (d : Descriptor) (i j : ℤ) where
   -- here 12 has no place
-  pub cell_12 : (bad_extent d.extent).given ≡ false → (bad_strides d).given ≡ false → (bad_cells len d).given ≡ true → r ≡ negsuc 11 → r ≡ cell_answer len d i j
-  cell_12 a b c e = rw (a, b, c) (e ∙ ap (λ n. neg_ℤ (pos n)) (sym (number_at_cell 12 (outside_cells len d))))
+  pub cell_refused : {x : Answer} → first_given (bad_extent d.extent ∷ bad_strides d ∷ bad_cells len d ∷ []) ≡ Some x → refused_to_c x ≡ cell_answer len d i j
+  cell_refused e = first_decides (bad_place d.extent i j ∷ []) refused_to_c (cell_of d (to_nat i) (to_nat j)) (bad_extent d.extent ∷ bad_strides d ∷ bad_cells len d ∷ []) e
 
   module _ (h : Held len d) where
-    pub cell_11 : (bad_place d.extent i j).given ≡ true → r ≡ negsuc 10 → r ≡ cell_answer len d i j
-    cell_11 p e = rw (h.extent, h.strides, h.cells, p) e
+    pub cell_11 : (bad_place d.extent i j).given ≡ true → refused_to_c (answer_of Refusal.Nowhere) ≡ cell_answer len d i j
+    cell_11 p = rw (h.extent, h.strides, h.cells, p) refl
 
-    pub cell_0 : (bad_place d.extent i j).given ≡ false → r ≡ cell_of d (to_nat i) (to_nat j) → r ≡ cell_answer len d i j
+    pub cell_0 : {r : ℤ} → (bad_place d.extent i j).given ≡ false → r ≡ cell_of d (to_nat i) (to_nat j) → r ≡ cell_answer len d i j
     cell_0 p e = rw (h.extent, h.strides, h.cells, p) e
 
 -- a position and a coordinate that 11 does not refuse
@@ -105,6 +112,10 @@ one_far s e = one_answer s ∙ ap (λ b. answer_at 5 (cond b (0 ∷ []) [])) e
 one_near : (s : Segment) → far_off s ≡ false → bad_coordinate (s ∷ []) ≡ answer 5 false
 one_near s e = one_answer s ∙ ap (λ b. answer_at 5 (cond b (0 ∷ []) [])) e
 
+pub one_or_none : (b : Bool) → pos (from_bool b) ≡ cond b (pos 1) (pos 0)
+one_or_none true = refl
+one_or_none false = refl
+
 abbrev last : Segment → Window → ℤ
 last s w = cond (tested w s) (pos 1) (pos 0)
 
@@ -117,9 +128,9 @@ module _ (s : Segment) (w : Window) {r : ℤ} where
   unfolding host_meet
   onward a e = by (e ∙ ap (λ g. cond g (negsuc 7) (judged (bad_coordinate (s ∷ []) ∷ []) refused_to_c (last s w))) (sym a))
 
-  pub meet_8 : (bad_window w).given ≡ true → r ≡ negsuc 7 → HostMeet s w r
+  pub meet_8 : {x : Answer} → first_given (bad_window w ∷ []) ≡ Some x → r ≡ refused_to_c x → HostMeet s w r
   unfolding host_meet
-  meet_8 a e = by (rw a e)
+  meet_8 a e = by (e ∙ first_decides (bad_coordinate (s ∷ []) ∷ []) refused_to_c (last s w) (bad_window w ∷ []) a)
 
   pub meet_5 : (bad_window w).given ≡ false → far_off s ≡ true → r ≡ negsuc 4 → HostMeet s w r
   meet_5 a b e = onward a (e ∙ ap (λ x. judged (x ∷ []) refused_to_c (last s w)) (sym (one_far s b)))

@@ -7,9 +7,17 @@ ghost use Rattle.paper.specs.Answers.{bad_place};
 ghost use Rattle.paper.specs.Hosts.{host_cell, host_words, HostMeet};
 ghost use Rattle.paper.specs.Results.{Scanned, built, queried, queried_many};
 ghost use Rattle.paper.specs.Wkt.{Read, written};
-ghost use Rattle.hosts.specs.Answered.{cell_answer};
+ghost use Rattle.hosts.specs.Answered.{to_c, cell_answer};
 
 use paper::{Descriptor, Reply, Segment, Window};
+use refusals::Refusal;
+
+// An answer on plain numbers: a refusal is the negative of its number.
+fn to_c(answer: Result<i64, Refusal>) -> i64
+    ensures { result ≡ to_c answer }
+{
+    answer.unwrap_or_else(|refusal| -refusal.number())
+}
 
 // ---- the cell of a position and coordinate: 3, 4, 12, 11
 
@@ -17,25 +25,22 @@ use paper::{Descriptor, Reply, Segment, Window};
 fn bad_place(n: i64, position: i64, coordinate: i64) -> bool
     ensures { result ≡ (bad_place n position coordinate).given }
 {
-    (position < 0) | (n <= position) | !((0 <= coordinate) & (coordinate <= 3))
+    !(0..n).contains(&position) | !(0..=3).contains(&coordinate)
 }
 
-fn cell_answer(length: i64, descriptor: Descriptor, position: i64, coordinate: i64) -> i64
-    ensures { result ≡ cell_answer length descriptor position coordinate }
+fn cell_answer(
+    length: i64,
+    descriptor: Descriptor,
+    position: i64,
+    coordinate: i64,
+) -> Result<i64, Refusal>
+    ensures { to_c result ≡ cell_answer length descriptor position coordinate }
 {
-    if table::bad_extent(descriptor.extent) {
-        return -3;
-    }
-    if table::bad_strides(descriptor) {
-        return -4;
-    }
-    if table::bad_cells(length, descriptor) {
-        return -12;
-    }
+    refusals::of_cells(length, descriptor)?;
     if bad_place(descriptor.extent, position, coordinate) {
-        return -11;
+        return Err(Refusal::Nowhere);
     }
-    table::cell(descriptor, whole::index(position), whole::index(coordinate))
+    Ok(table::cell(descriptor, whole::index(position), whole::index(coordinate)))
 }
 
 #[unsafe(no_mangle)]
@@ -52,53 +57,49 @@ pub extern "C" fn kalinosz_cell(
 {
     let descriptor = Descriptor {
         kind: 1,
-        base: base,
+        base,
         lower: 0,
         extent: n,
-        segment_stride: segment_stride,
-        coordinate_stride: coordinate_stride,
+        segment_stride,
+        coordinate_stride,
     };
-    cell_answer(length, descriptor, position, coordinate)
+    to_c(cell_answer(length, descriptor, position, coordinate))
 }
 
 // ---- W(n): 3
+
+fn words_answer(n: i64) -> Result<i64, Refusal>
+    ensures { to_c result ≡ host_words n }
+{
+    if table::bad_extent(n) {
+        return Err(Refusal::Extent);
+    }
+    Ok(whole::count(table::words(whole::index(n))))
+}
 
 #[unsafe(no_mangle)]
 pub extern "C" fn kalinosz_words(n: i64) -> i64
     ensures { result ≡ host_words n }
 {
-    if table::bad_extent(n) {
-        return -3;
-    }
-    whole::count(table::words(whole::index(n)))
+    to_c(words_answer(n))
 }
 
 // ---- whether one segment meets one window, 1 or 0: 8, 5
 
-fn meet_answer(segment: Segment, window: Window) -> i64
-    ensures { HostMeet segment window result }
+fn meet_answer(segment: Segment, window: Window) -> Result<i64, Refusal>
+    ensures { HostMeet segment window (to_c result) }
 {
-    if meeting::bad_window(window) {
-        return -8;
-    }
+    let frame = refusals::of_window(window)?;
     if table::far_off(segment) {
-        return -5;
+        return Err(Refusal::Far(0));
     }
-    if meeting::meets(segment, window) {
-        return 1;
-    }
-    0
+    Ok(i64::from(meeting::meets(segment, frame)))
 }
 
 fn window_of(a: i64, b: i64, c: i64, d: i64) -> Window
     ensures { result ≡ record { a = a; b = b; c = c; d = d } }
 {
-    Window {
-        a: a,
-        b: b,
-        c: c,
-        d: d,
-    }
+    Window { a, b, c, d }
 }
 
 #[unsafe(no_mangle)]
@@ -114,13 +115,8 @@ pub extern "C" fn kalinosz_meets(
 ) -> i64
     ensures { HostMeet (record { x1 = x1; y1 = y1; x2 = x2; y2 = y2 }) (record { a = a; b = b; c = c; d = d }) result }
 {
-    let segment = Segment {
-        x1: x1,
-        y1: y1,
-        x2: x2,
-        y2: y2,
-    };
-    meet_answer(segment, window_of(a, b, c, d))
+    let segment = Segment { x1, y1, x2, y2 };
+    to_c(meet_answer(segment, window_of(a, b, c, d)))
 }
 
 // ---- calls on lent buffers: each array is followed by its count of elements
@@ -136,12 +132,12 @@ fn described(
     ensures { result ≡ record { kind = kind; base = base; lower = lower; extent = n; segment_stride = segment_stride; coordinate_stride = coordinate_stride } }
 {
     Descriptor {
-        kind: kind,
-        base: base,
-        lower: lower,
+        kind,
+        base,
+        lower,
         extent: n,
-        segment_stride: segment_stride,
-        coordinate_stride: coordinate_stride,
+        segment_stride,
+        coordinate_stride,
     }
 }
 

@@ -1,5 +1,5 @@
 -- The records one after the other, written place by place.
--- Use: `Going` says that what is due from record i on, put at its place, is all. Assumes nothing.
+-- Use: what is due from record i on, put at its place, is all (`begun`, `next`, `done`). Assumes nothing.
 use Rattle.std.specs.Prelude.{◌≡◌, refl, ℤ, set}
 use Rattle.std.proofs.Math.Path.{sym, ap}
 use Rattle.std.proofs.Common.{◌∙◌, add-one, length-set, length-drop}
@@ -9,7 +9,7 @@ use native.Mathlib.Omega.{arith}
 use Rattle.std.proofs.Math.ListN.{length, drop, drop_of_length-le}
 use Rattle.std.proofs.Math.Seq.{drop-cons}
 use Rattle.lists.specs.Plain.{joined}
-use Rattle.lists.specs.Parts.{put, put_nil, put_step, put_all, put_join, length_put}
+use Rattle.lists.specs.Parts.{put, put_nil, put_step, put_all, put_join}
 use Rattle.paper.specs.Descriptor.{at}
 use Rattle.paper.specs.Words.{record_of}
 use Rattle.paper.specs.declared.Segment.{Segment}
@@ -44,37 +44,25 @@ four to s x y z w h =
     ∙ put_step (to + 3) w [] s₃ (omega arith)
     ∙ put_nil _ _)
 
--- what is due from record i on, put at its place, is all
-pub record Going (rs : List Segment) (n : ℕ) (s : List ℤ) (i : ℕ) : Type 0 where
-  pub upto : i ≤ n
-  pub long : length s ≡ 4 * n
-  pub same : put (4 * i) (words (drop i rs)) s ≡ words rs
-
 module _ (rs : List Segment) (n : ℕ) (ln : length rs ≡ n) where
-  pub begun : (s : List ℤ) → length s ≡ 4 * n → Going rs n s 0
-  begun s h = record { upto = omega arith; long = h; same = put_all (words rs) s (omega (arith, words_length rs)) }
+  pub begun : (s : List ℤ) → length s ≡ 4 * n → put (4 * 0) (words (drop 0 rs)) s ≡ words rs
+  begun s h = put_all (words rs) s (omega (arith, words_length rs))
 
-  pub next : (s : List ℤ) (i : ℕ) → Going rs n s i → i < n → Going rs n (put (4 * i) (record_of (at rs i)) s) (i + 1)
+  pub next : (s : List ℤ) (i : ℕ) → length s ≡ 4 * n → i < n → put (4 * (i + 1)) (words (drop (i + 1) rs)) (put (4 * i) (record_of (at rs i)) s) ≡ put (4 * i) (words (drop i rs)) s
   unfolding joined
-  next s i g h =
+  next s i l h =
       let R = record_of (at rs i) in
       let J = words (drop (suc i) rs) in
       let e : drop i rs ≡ at rs i ∷ drop (suc i) rs = drop-cons rs i _ (omega (arith, ln)) in
-      let k : 4 * i + length R ≡ 4 * (i + 1) = omega arith in
+      let k : 4 * suc i ≡ 4 * i + length R = omega arith in
       let lj : length J ≡ 4 * (n - suc i) = words_length (drop (suc i) rs) ∙ ap (λ m. 4 * m) (length-drop (suc i) rs ∙ ap (λ m. m - suc i) ln) in
-      record {
-        upto = omega arith;
-        long = length_put (4 * i) R s (omega (arith, g.long)) ∙ g.long;
-        same =
-            ap (λ m. put (4 * m) (words (drop m rs)) (put (4 * i) R s)) (add-one i)
-            ∙ ap (λ m. put m J (put (4 * i) R s)) (omega arith)
-            ∙ put_join (4 * i) R J s (omega (arith, lj, g.long))
-            ∙ ap (λ l. put (4 * i) (words l) s) (sym e)
-            ∙ g.same;
-      }
+      ap (λ m. put (4 * m) (words (drop m rs)) (put (4 * i) R s)) (add-one i)
+      ∙ ap (λ m. put m J (put (4 * i) R s)) k
+      ∙ put_join (4 * i) R J s (omega (arith, lj, l))
+      ∙ ap (λ v. put (4 * i) (words v) s) (sym e)
 
-  pub done : (s : List ℤ) (i : ℕ) → Going rs n s i → n ≤ i → s ≡ words rs
+  pub done : (s : List ℤ) (i : ℕ) → n ≤ i → s ≡ put (4 * i) (words (drop i rs)) s
   unfolding joined
-  done s i g h =
+  done s i h =
       let e : drop i rs ≡ [] = drop_of_length-le rs {i = i} (omega (arith, ln)) in
-      sym (put_nil (4 * i) s) ∙ ap (λ l. put (4 * i) (words l) s) (sym e) ∙ g.same
+      sym (ap (λ v. put (4 * i) (words v) s) e ∙ put_nil (4 * i) s)

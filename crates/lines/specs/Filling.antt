@@ -1,52 +1,22 @@
 -- An S line: its faults in their order, and a segment written after those of the table.
-use Rattle.std.specs.Prelude.{◌≡◌, refl, Bool, true, false, cond, ◌&&◌, ℕ, zero, suc, ◌+◌, ◌*◌, ◌≤◌, ◌<◌, leb, ℤ, pos, neg_ℤ, length, take, drop, get_or, set}
-use Rattle.std.proofs.Common.{sym, ◌∙◌, arith, add-one, le-leb, length-set, length-take-le, get_or-append-add, SFits}
+use Rattle.std.specs.Prelude.{◌≡◌, refl, Bool, true, false, cond, ℕ, zero, suc, ◌+◌, ◌*◌, ◌≤◌, ◌<◌, leb, ℤ, pos, length, take, drop, get_or, set}
+use Rattle.std.proofs.Common.{sym, ◌∙◌, arith, add-one, le-leb, length-set, length-take-le, get_or-append-add}
 use Rattle.std.proofs.Math.Path.{ap, ap₂}
 use mathlib.Core.List.{List, [], ◌∷◌, ◌++◌, map, map-append}
 use Rattle.std.proofs.Math.Decide.{dec_lt}
-use Rattle.std.proofs.lemmas.Bool.{not-false, lt-leb}
+use Rattle.std.proofs.lemmas.Bool.{lt-leb}
 use Rattle.std.proofs.Math.ListN.{get_or-append}
-use Rattle.std.specs.Int.{w32}
-use Rattle.whole.specs.Whole.{whole, fits_by}
 use Rattle.lists.specs.Plain.{filter, positions, to_nat}
-use Rattle.lists.specs.Tests.{and_true, within_true}
 use Rattle.lists.specs.Parts.{put, put_step, put_nil, get_d_put_left}
 use Rattle.table.specs.Segments.{length_segments}
-use Rattle.paper.specs.Limits.{coordinate_fits}
 use Rattle.paper.specs.Descriptor.{cell_of, segment_of, segments_of}
 use Rattle.paper.specs.Answers.{answer, answer_at, positions_of, bad_coordinate, bad_slant, far_off, slanted, judged}
 use Rattle.paper.specs.Lines.{Read, fault, next, filling, fault_of, most_in_program, read_segment}
 use Rattle.paper.specs.declared.Segment.{Segment}
 use Rattle.lines.specs.States.{cells_of, descriptor_of, first_of, segments_in, Fits, Added}
 use Rattle.lines.specs.declared.Table.{Table}
-use Rattle.lines.specs.declared.State.TheVariants.{Filling}
-use Rattle.lines.specs.declared.Outcome.TheVariants.{Fault, Next}
-
--- ---- coordinates within their limits fit a cell
-coordinate_fits_is : (z : ℤ) → coordinate_fits z ≡ true → SFits w32 z
-coordinate_fits_is z e = let p = within_true (neg_ℤ (pos 536870912)) (pos 536870912) z e in fits_by w32 z (omega (whole, p.0, p.1))
-
-module _ (s : Segment) (e : far_off s ≡ false) where
-  near_all : (coordinate_fits s.x1 && coordinate_fits s.y1 && coordinate_fits s.x2 && coordinate_fits s.y2) ≡ true
-  near_all = not-false (coordinate_fits s.x1 && coordinate_fits s.y1 && coordinate_fits s.x2 && coordinate_fits s.y2) e
-
-  near_y2 : ((coordinate_fits s.x1 && coordinate_fits s.y1 && coordinate_fits s.x2) ≡ true) × (coordinate_fits s.y2 ≡ true)
-  near_y2 = and_true (coordinate_fits s.x1 && coordinate_fits s.y1 && coordinate_fits s.x2) (coordinate_fits s.y2) near_all
-
-  near_x2 : ((coordinate_fits s.x1 && coordinate_fits s.y1) ≡ true) × (coordinate_fits s.x2 ≡ true)
-  near_x2 = and_true (coordinate_fits s.x1 && coordinate_fits s.y1) (coordinate_fits s.x2) near_y2.0
-
-  pub x1_fits : SFits w32 s.x1
-  x1_fits = coordinate_fits_is s.x1 (and_true (coordinate_fits s.x1) (coordinate_fits s.y1) near_x2.0).0
-
-  pub y1_fits : SFits w32 s.y1
-  y1_fits = coordinate_fits_is s.y1 (and_true (coordinate_fits s.x1) (coordinate_fits s.y1) near_x2.0).1
-
-  pub x2_fits : SFits w32 s.x2
-  x2_fits = coordinate_fits_is s.x2 near_x2.1
-
-  pub y2_fits : SFits w32 s.y2
-  y2_fits = coordinate_fits_is s.y2 near_y2.1
+use Rattle.std.specs.Prelude.{Ok, Err}
+use Rattle.lines.specs.declared.Fault.TheVariants.{Size, Far, Slanted}
 
 -- ---- four cells one after the other
 pub put_four : (a : ℕ) (x y z w : ℤ) (cells : List ℤ) → a + 4 ≤ length cells → set (set (set (set cells a x) (a + 1) y) (a + 2) z) (a + 3) w ≡ put a (x ∷ y ∷ z ∷ w ∷ []) cells
@@ -134,7 +104,7 @@ one_answer number q s = go (q s)
     go true = refl
     go false = refl
 
-module _ (t : Table) (s : Segment) (cells : List ℤ) (at : ℕ) where
+module _ (t : Table) (s : Segment) (cells : List ℤ) where
   -- the tests in their order, with a table's count of segments
   in_order : read_segment (first_of t) (segments_in t cells) s ≡ cond (leb most_in_program t.size) (fault 3) (cond (far_off s) (fault 5) (cond (slanted s) (fault 6) (next (filling (first_of t) (segments_in t cells ++ (s ∷ []))) [])))
   in_order =
@@ -144,27 +114,24 @@ module _ (t : Table) (s : Segment) (cells : List ℤ) (at : ℕ) where
       good : Read
       good = next (filling (first_of t) (segments_in t cells ++ (s ∷ []))) []
 
-  pub S_many : 256 ≤ t.size → Added t s cells at (Fault 3) cells
+  pub S_many : 256 ≤ t.size → Added t s cells (Err Size) cells
   S_many h = record { reads = in_order ∙ rw (le-leb 256 t.size h) refl; kept = omega arith }
 
   module _ (few : t.size < 256) where
-    pub S_far : far_off s ≡ true → Added t s cells at (Fault 5) cells
+    pub S_far : far_off s ≡ true → Added t s cells (Err Far) cells
     S_far e = record { reads = in_order ∙ rw (lt-leb 256 t.size few, e) refl; kept = omega arith }
 
-    pub S_slanted : far_off s ≡ false → slanted s ≡ true → Added t s cells at (Fault 6) cells
+    pub S_slanted : far_off s ≡ false → slanted s ≡ true → Added t s cells (Err Slanted) cells
     S_slanted f e = record { reads = in_order ∙ rw (lt-leb 256 t.size few, f, e) refl; kept = omega arith }
 
-    pub S_good : length cells ≡ 1024 → Fits t cells → far_off s ≡ false → slanted s ≡ false → Added t s cells at (Next (Filling (grown t s cells)) at) (cells_after t s cells)
+    pub S_good : length cells ≡ 1024 → Fits t cells → far_off s ≡ false → slanted s ≡ false → Added t s cells (Ok (grown t s cells)) (cells_after t s cells)
     S_good l fit f e = record {
       reads = in_order ∙ rw (lt-leb 256 t.size few, f, e) refl ∙ ap (λ ss. next (filling (first_of t) ss) []) (sym (one_more t s cells (omega arith)));
-      kept = (
-        refl,
-        record {
-          kind = fit.kind;
-          lower = fit.lower;
-          size = omega arith;
-          near = still t s cells (omega arith) far_off fit.near f;
-          straight = still t s cells (omega arith) slanted fit.straight e;
-        },
-      );
+      kept = record {
+        kind = fit.kind;
+        lower = fit.lower;
+        size = omega arith;
+        near = still t s cells (omega arith) far_off fit.near f;
+        straight = still t s cells (omega arith) slanted fit.straight e;
+      };
     }

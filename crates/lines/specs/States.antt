@@ -1,5 +1,5 @@
 -- The code's state as `paper`'s, and what T and S lines do to it.
-use Rattle.std.specs.Prelude.{◌≡◌, true, false, List, [], ◌∷◌, ℕ, ◌+◌, ◌≤◌, ◌<◌, ℤ, pos, length, take, replicate}
+use Rattle.std.specs.Prelude.{◌≡◌, true, false, List, [], ◌∷◌, ℕ, ◌≤◌, ◌<◌, ℤ, pos, take, replicate}
 use Rattle.std.proofs.Math.Path.{refl}
 use native.Mathlib.Omega.{arith}
 use Rattle.lists.specs.Plain.{positions}
@@ -13,12 +13,15 @@ use Rattle.paper.specs.Lines as lines
 use Rattle.paper.specs.declared.Descriptor.{Descriptor}
 use Rattle.paper.specs.declared.Segment.{Segment}
 use Rattle.paper.specs.declared.Window.{Window}
-use Rattle.texts.specs.Written.{Written}
+use Rattle.std.specs.Prelude.{Result, Ok, Err}
+use Rattle.texts.specs.Written.{Wrote}
+use Rattle.texts.specs.declared.Output.{Output}
 use Rattle.lines.specs.declared.Table.{Table}
+use Rattle.lines.specs.declared.Desk.{Desk}
+use Rattle.lines.specs.declared.Fault.{Fault}
+use Rattle.lines.specs.declared.Fault.TheVariants.{Form, Kind, Lower, Size, Far, Slanted, Window as BadWindow}
 use Rattle.lines.specs.declared.State.{State}
 use Rattle.lines.specs.declared.State.TheVariants.{Start, Filling, Asking}
-use Rattle.lines.specs.declared.Outcome.{Outcome}
-use Rattle.lines.specs.declared.Outcome.TheVariants.{Fault, Next}
 
 -- the cells of a segment
 abbrev pub cells_of : Segment → List ℤ
@@ -54,65 +57,75 @@ pub record Fits (t : Table) (cells : List ℤ) : Type 0 where
   pub near : (p : ℕ) → p < t.size → far_off (segment_of (descriptor_of t) cells p) ≡ false
   pub straight : (p : ℕ) → p < t.size → slanted (segment_of (descriptor_of t) cells p) ≡ false
 
+-- the answer number of a fault
+abbrev pub number_of : Fault → ℕ
+number_of Form = 0
+number_of Kind = 1
+number_of Lower = 2
+number_of Size = 3
+number_of Far = 5
+number_of Slanted = 6
+number_of BadWindow = 8
+
 -- what a step says, with the cells after it and the text that it has printed
-abbrev pub outcome : Outcome → List ℤ → List ℕ → Read
-outcome (Fault n) cells text = fault n
-outcome (Next s place) cells text = next (state_of s cells) text
+abbrev pub outcome : Result State Fault → List ℤ → List ℕ → Read
+outcome (Err f) cells text = fault (number_of f)
+outcome (Ok s) cells text = next (state_of s cells) text
+
+-- the state that a T or an S line leaves
+abbrev pub filled : Result Table Fault → Result State Fault
+filled (Err f) = Err f
+filled (Ok t) = Ok (Filling t)
 
 -- ---- a T line
-abbrev pub KeptT : Outcome → ℕ → Type 0
-KeptT (Fault n) at = n ≤ 2
-KeptT (Next Start place) at = ⊥
-KeptT (Next (Filling t) place) at = (place ≡ at) × (t.size ≡ 0) × ((cells : List ℤ) → Fits t cells)
-KeptT (Next (Asking t) place) at = ⊥
+abbrev pub KeptT : Result Table Fault → Type 0
+KeptT (Err f) = number_of f ≤ 2
+KeptT (Ok t) = (t.size ≡ 0) × ((cells : List ℤ) → Fits t cells)
 
-pub record Opened (line : Line) (at : ℕ) (r : Outcome) : Type 0 where
-  pub reads : (cells : List ℤ) → read start line ≡ outcome r cells []
-  pub kept : KeptT r at
+pub record Opened (line : Line) (r : Result Table Fault) : Type 0 where
+  pub reads : (cells : List ℤ) → read start line ≡ outcome (filled r) cells []
+  pub kept : KeptT r
 
 -- ---- an S line
-abbrev pub KeptS : Outcome → ℕ → List ℤ → Type 0
-KeptS (Fault n) at cells = n ≤ 8
-KeptS (Next Start place) at cells = ⊥
-KeptS (Next (Filling t) place) at cells = (place ≡ at) × Fits t cells
-KeptS (Next (Asking t) place) at cells = ⊥
+abbrev pub KeptS : Result Table Fault → List ℤ → Type 0
+KeptS (Err f) cells = 0 ≤ 0
+KeptS (Ok t) cells = Fits t cells
 
-pub record Added (t : Table) (s : Segment) (cells : List ℤ) (at : ℕ) (r : Outcome) (after : List ℤ) : Type 0 where
-  pub reads : read_segment (first_of t) (segments_in t cells) s ≡ outcome r after []
-  pub kept : KeptS r at after
+pub record Added (t : Table) (s : Segment) (cells : List ℤ) (r : Result Table Fault) (after : List ℤ) : Type 0 where
+  pub reads : read_segment (first_of t) (segments_in t cells) s ≡ outcome (filled r) after []
+  pub kept : KeptS r after
 
-module _ (at : ℕ) where
-  -- a line of another place
-  pub not_opened : (line : Line) → read start line ≡ fault 0 → Opened line at (Fault 0)
-  not_opened line e = record { reads = λ cells. e; kept = omega arith }
+-- a line of another place
+pub not_opened : (line : Line) → read start line ≡ fault 0 → Opened line (Err Form)
+not_opened line e = record { reads = λ cells. e; kept = omega arith }
 
-  pub S_first : (s : Segment) → Opened (segment s) at (Fault 0)
+pub S_first : (s : Segment) → Opened (segment s) (Err Form)
+unfolding read
+S_first s = not_opened (segment s) refl
+
+pub W_first : (w : Window) → Opened (window w) (Err Form)
+unfolding read
+W_first w = not_opened (window w) refl
+
+pub other_first : Opened other (Err Form)
+unfolding read
+other_first = not_opened other refl
+
+module _ (kind lower : ℤ) where
+  pub T_kind : (bad_kind kind).given ≡ true → Opened (table kind lower) (Err Kind)
   unfolding read
-  S_first s = not_opened (segment s) refl
+  T_kind e = record { reads = λ cells. rw e refl; kept = omega arith }
 
-  pub W_first : (w : Window) → Opened (window w) at (Fault 0)
+  pub T_lower : (bad_kind kind).given ≡ false → (bad_lower kind lower).given ≡ true → Opened (table kind lower) (Err Lower)
   unfolding read
-  W_first w = not_opened (window w) refl
+  T_lower k e = record { reads = λ cells. rw (k, e) refl; kept = omega arith }
 
-  pub other_first : Opened other at (Fault 0)
-  unfolding read
-  other_first = not_opened other refl
-
-  module _ (kind lower : ℤ) where
-    pub T_kind : (bad_kind kind).given ≡ true → Opened (table kind lower) at (Fault 1)
-    unfolding read
-    T_kind e = record { reads = λ cells. rw e refl; kept = omega arith }
-
-    pub T_lower : (bad_kind kind).given ≡ false → (bad_lower kind lower).given ≡ true → Opened (table kind lower) at (Fault 2)
-    unfolding read
-    T_lower k e = record { reads = λ cells. rw (k, e) refl; kept = omega arith }
-
-    pub T_good : (bad_kind kind).given ≡ false → (bad_lower kind lower).given ≡ false → Opened (table kind lower) at (Next (Filling (record { kind = kind; lower = lower; size = 0 })) at)
-    unfolding read segments_of positions
-    T_good k e = record {
-      reads = λ cells. rw (k, e) refl;
-      kept = (refl, refl, λ cells. record { kind = k; lower = e; size = omega arith; near = λ p h. absurd (omega arith); straight = λ p h. absurd (omega arith) });
-    }
+  pub T_good : (bad_kind kind).given ≡ false → (bad_lower kind lower).given ≡ false → Opened (table kind lower) (Ok (record { kind = kind; lower = lower; size = 0 }))
+  unfolding read segments_of positions
+  T_good k e = record {
+    reads = λ cells. rw (k, e) refl;
+    kept = (refl, λ cells. record { kind = k; lower = e; size = omega arith; near = λ p h. absurd (omega arith); straight = λ p h. absurd (omega arith) });
+  }
 
 -- ---- a W line: the answer over the words that stand in an index buffer
 abbrev pub answer_over : Table → Window → List ℤ → List ℕ
@@ -123,41 +136,41 @@ pub record Ready (t : Table) (cells index : List ℤ) : Type 0 where
   pub fits : Fits t cells
   pub words : take (W t.size) index ≡ index_words (first_of t) (segments_in t cells)
 
--- what the buffers hold between lines
+-- what the desk holds between lines
 abbrev pub Kept : State → List ℤ → List ℤ → Type 0
 Kept Start cells index = 0 ≤ 0
 Kept (Filling t) cells index = Fits t cells
 Kept (Asking t) cells index = Ready t cells index
 
--- buffers that are long enough: 256 segments, the words of their index, their numbers, and room for an A line
-pub record Lent (cells index numbers : List ℤ) (out : List ℕ) (at : ℕ) : Type 0 where
-  pub table : length cells ≡ 1024
-  pub words : length index ≡ 7684
-  pub numbered : length numbers ≡ 256
-  pub room : at + 5420 ≤ length out
-
 -- what a step has written: nothing where it is a fault
-abbrev pub WroteBy : Outcome → List ℕ → ℕ → List ℕ → List ℕ → Type 0
-WroteBy (Fault n) text at out after = (n ≤ 8) × (after ≡ out)
-WroteBy (Next s end) text at out after = (end ≤ length out) × Written text at out end after
+abbrev pub WroteBy : {X : Type 0} → Result X Fault → List ℕ → Output → Output → Type 0
+WroteBy (Err f) text out after = after ≡ out
+WroteBy (Ok s) text out after = Wrote text out after
 
-abbrev pub StillAsking : Outcome → Table → Type 0
-StillAsking (Fault n) t = 0 ≤ n
-StillAsking (Next s end) t = s ≡ Asking t
+-- after the first W line the state stays
+abbrev pub still : Table → Result (Unit {0}) Fault → Result State Fault
+still t (Err f) = Err f
+still t (Ok u) = Ok (Asking t)
 
-pub record Asked (t : Table) (line : Line) (index : List ℤ) (out : List ℕ) (at : ℕ) (r : Outcome) (after : List ℕ) : Type 0 where
+pub record Asked (t : Table) (line : Line) (index : List ℤ) (out : Output) (r : Result (Unit {0}) Fault) (after : Output) : Type 0 where
   pub text : List ℕ
-  pub reads : (cells : List ℤ) → Ready t cells index → read (state_of (Asking t) cells) line ≡ outcome r cells text
-  pub wrote : WroteBy r text at out after
-  pub asks : StillAsking r t
+  pub reads : (cells : List ℤ) → Ready t cells index → read (state_of (Asking t) cells) line ≡ outcome (still t r) cells text
+  pub wrote : WroteBy r text out after
 
-abbrev pub KeptBy : Outcome → List ℤ → List ℤ → Type 0
-KeptBy (Fault n) cells index = 0 ≤ n
-KeptBy (Next s end) cells index = Kept s cells index
+abbrev pub KeptBy : Result State Fault → List ℤ → List ℤ → Type 0
+KeptBy (Err f) cells index = 0 ≤ 0
+KeptBy (Ok s) cells index = Kept s cells index
 
--- a line judged: what `paper` reads of it, what was printed, and what the buffers hold
-pub record Stepped (s : State) (line : Line) (cells : List ℤ) (out : List ℕ) (at : ℕ) (r : Outcome) (cells_after index_after : List ℤ) (outAfter : List ℕ) : Type 0 where
+-- a line judged: what `paper` reads of it, what was printed, and what the desk holds
+pub record Stepped (s : State) (line : Line) (cells : List ℤ) (out : Output) (r : Result State Fault) (cells_after index_after : List ℤ) (out_after : Output) : Type 0 where
   pub text : List ℕ
   pub reads : read (state_of s cells) line ≡ outcome r cells_after text
-  pub wrote : WroteBy r text at out outAfter
+  pub wrote : WroteBy r text out out_after
   pub kept : KeptBy r cells_after index_after
+
+-- ---- a desk before the input: nothing on it
+pub record Blank (desk : Desk) : Type 0 where
+  pub cells : desk.cells ≡ replicate 1024 (pos 0)
+  pub index : desk.index ≡ replicate 7684 (pos 0)
+  pub numbers : desk.numbers ≡ replicate 256 (pos 0)
+  pub carry : desk.carry ≡ replicate 80 0

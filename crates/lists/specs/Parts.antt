@@ -11,6 +11,7 @@ use native.Mathlib.Omega.{arith}
 use Rattle.std.proofs.Math.ListN.{length, take, drop, set, length-append, length-take, length-drop, get_or-append}
 use Rattle.std.proofs.Math.Seq.{length-take-le, take_all, take-append_seam, drop-append_seam, take-append-le, drop-append-add, set_at, set_split, take-add, get_or-take}
 use Rattle.std.proofs.lemmas.List.{drop-append-le}
+use Rattle.std.specs.List.{copy_within}
 use borrow.Rule.Slice.PartMut.{put_mid}
 
 -- the n elements from place a on
@@ -131,6 +132,14 @@ module _ {ℓ} {A : Type ℓ} where
 
   pub drop_win : (a n m : ℕ) (xs : List A) → a + (n + m) ≤ length xs → drop n (win a (n + m) xs) ≡ win (a + n) m xs
   drop_win a n m xs h = ap (drop n) (win_add a n m xs) ∙ drop_at (win a n xs) _ n (length_win a n xs (omega arith))
+
+-- a part copied to another place of the same list, which std's `copy_within` leaves
+pub copied : {X : Type 0} (from to n : ℕ) (xs : List X) → from + n ≤ length xs → copy_within xs from (from + n) to ≡ put to (win from n xs) xs
+unfolding put win
+copied from to n xs h =
+    let k : from + n - from ≡ n = omega arith in
+    let l : length (take n (drop from xs)) ≡ n = simp (length-take, length-drop) (omega arith) in
+    rw (k, l) (append_assoc (take to xs) (take n (drop from xs)) (drop (to + n) xs))
 
 -- a part that was lent, `&mut s[a..e]` with k = e - a, and has come back
 pub lent : {X : Type 0} (a k : ℕ) (xs ys : List X) → length ys ≡ k → put_mid a k xs ys ≡ put a ys xs

@@ -1,23 +1,26 @@
 -- What the public query gives along its order 9, 8, 10, 7, from what the walk gives; and that what `queried` gives keeps the promises (`with_promise`).
-use Rattle.std.specs.Prelude.{◌≡◌, refl, true, false, List, ℕ, ◌≤◌, ◌<◌, ℤ, length, take}
+use Rattle.std.specs.Prelude.{◌≡◌, refl, true, false, List, [], ◌∷◌, ℕ, ◌≤◌, ◌<◌, ℤ, length, take, Some, Result as Outcome, Ok, Err, is_ok}
 use Rattle.std.proofs.Common.{sym, subst, ◌∙◌, arith}
 use Rattle.std.proofs.Math.Path.{ap}
+use Rattle.std.specs.Result.{result_unwrap_or}
 use borrow.Author.Tests.{lt-ltb, le-ltb}
 use Rattle.std.proofs.lemmas.List.{length-map}
 use Rattle.lists.specs.Tests.{clash}
 use Rattle.lists.specs.Filling.{filled, filled_all, filled_front, filled_length}
 use Rattle.paper.specs.Descriptor.{number_of}
-use Rattle.paper.specs.Answers.{bad_window, refused, done}
-use Rattle.paper.specs.Orders.{bad_index, is_stopped, due_by}
+use Rattle.paper.specs.Answers.{Answer, bad_window, bad_room, refused, done}
+use Rattle.paper.specs.Orders.{bad_index, bad_walk, is_stopped, due_by}
 use Rattle.paper.specs.Walk.{word, size_in, Walked, walked, stopped, walk_of}
 use Rattle.paper.specs.Results.{Result, over, numbers_of, listing, queried}
 use Rattle.paper.specs.Demands.{QueryPromise, QueryPromises}
 use Rattle.promise.proofs.Demands.{query_promise}
 use Rattle.promise.specs.Calls.{listed_in}
 use Rattle.paper.specs.declared.Window.{Window}
-use Rattle.tally.specs.Fold.{Given}
+use Rattle.tally.specs.Fold.{Given, tally}
+use Rattle.tally.specs.declared.Spoiled.{Spoiled}
 use Rattle.tally.specs.declared.Tally.{Tally}
-use Rattle.refusals.specs.Orders.{refusal_at}
+use Rattle.refusals.specs.Orders.{answer_of, first_given, refuse, first_decides}
+use Rattle.refusals.specs.declared.Refusal.{Refusal}
 
 -- a walk that has ended, and the room that it was walked into: where that holds the `due` numbers, they stand at its front
 pub record Due (ws : List ℤ) (w : Window) (room : List ℤ) (due : ℕ) : Type 0 where
@@ -27,9 +30,9 @@ pub record Due (ws : List ℤ) (w : Window) (room : List ℤ) (due : ℕ) : Type
   pub front : due ≤ length room → take due room ≡ numbers_of (word ws 1) (listed_in (walk_of ws w))
 
 module _ (n : ℕ) (first : ℤ) (room : List ℤ) where
-  pub spoilt : (o : Walked) (t : Tally) (cells : List ℤ) → Given n first room o t cells → 0 < t.stopped → is_stopped o ≡ true
-  spoilt (walked ps v) t cells g h = absurd (omega (arith, ap (λ (x : Tally). x.stopped) g.0))
-  spoilt stopped t cells g h = refl
+  pub spoilt : (o : Walked) (x : Spoiled) (cells : List ℤ) → Given n first room o (Err x) cells → is_stopped o ≡ true
+  spoilt (walked ps v) x cells g = clash (sym (ap (λ r. is_ok r) g.0))
+  spoilt stopped x cells g = refl
 
   -- what a walk that was not spoiled gives
   pub record Ended (o : Walked) (t : Tally) (cells : List ℤ) : Type 0 where
@@ -40,40 +43,45 @@ module _ (n : ℕ) (first : ℤ) (room : List ℤ) where
     pub cells_are : cells ≡ filled (numbers_of first (listed_in o)) room
     pub shows : (numbers : List ℤ) → (done t.listed t.visits, over (numbers_of first (listed_in o)) numbers) ≡ listing first numbers o
 
-  pub ended : (o : Walked) (t : Tally) (cells : List ℤ) → Given n first room o t cells → t.stopped ≤ 0 → Ended o t cells
+  pub ended : (o : Walked) (t : Tally) (cells : List ℤ) → Given n first room o (Ok t) cells → Ended o t cells
   unfolding listing
-  ended (walked ps v) t cells g h =
-      let e = ap (λ (x : Tally). x.listed) g.0 in
+  ended (walked ps v) t cells g =
+      let is : t ≡ tally (length ps) v = ap (λ r. result_unwrap_or r t) g.0 in
+      let e = ap (λ (x : Tally). x.listed) is in
       record {
         ends = refl;
         count = e;
         due = e;
         few = omega (arith, e, g.2);
         cells_are = g.1;
-        shows = λ numbers. ap (λ (x : Tally). (done x.listed x.visits, over (numbers_of first ps) numbers)) g.0;
+        shows = λ numbers. ap (λ (x : Tally). (done x.listed x.visits, over (numbers_of first ps) numbers)) is;
       }
-  ended stopped t cells g h = absurd (omega (arith, g.0))
+  ended stopped t cells g = clash (sym g.0)
 
 module _ (ws : List ℤ) (w : Window) (numbers : List ℤ) where
-  pub with_promise : {r : Result} → r ≡ queried ws w numbers → (r ≡ queried ws w numbers) × QueryPromises ws w numbers r
+  -- what is given keeps the promises
+  abbrev pub GivenQuery : Result → Type 0
+  GivenQuery r = (r ≡ queried ws w numbers) × QueryPromises ws w numbers r
+
+  pub with_promise : {r : Result} → r ≡ queried ws w numbers → GivenQuery r
   with_promise e = (e, λ first segments index good. subst (QueryPromise first segments w (length numbers)) (sym e) (query_promise first segments w ws numbers index good))
 
-  pub index_refused : (bad_index ws).given ≡ true → (refused (refusal_at 9 0 0), numbers) ≡ queried ws w numbers
+  pub index_refused : (bad_index ws).given ≡ true → (refused (answer_of Refusal.Index), numbers) ≡ queried ws w numbers
   unfolding queried
   index_refused e = rw e
 
   module _ (e9 : (bad_index ws).given ≡ false) where
-    pub window_refused : (bad_window w).given ≡ true → (refused (refusal_at 8 0 0), numbers) ≡ queried ws w numbers
+    pub window_refused : {x : Answer} → first_given (bad_window w ∷ []) ≡ Some x → (refused x, numbers) ≡ queried ws w numbers
     unfolding queried
-    window_refused e = rw (e9, e)
+    window_refused e = first_decides (bad_walk (walk_of ws w) ∷ bad_room (due_by (walk_of ws w)) (length numbers) ∷ []) (refuse numbers) (listing (word ws 1) numbers (walk_of ws w)) (bad_window w ∷ []) e ∙ rw e9 refl
 
     module _ (e8 : (bad_window w).given ≡ false) where
-      pub walk_refused : is_stopped (walk_of ws w) ≡ true → (refused (refusal_at 10 0 0), numbers) ≡ queried ws w numbers
+      pub walk_refused : is_stopped (walk_of ws w) ≡ true → (refused (answer_of (Refusal.Spoiled 0)), numbers) ≡ queried ws w numbers
       unfolding queried
       walk_refused e = rw (e9, e8, e)
 
       module _ (room : List ℤ) (t : Tally) (cells : List ℤ) (o : Ended (size_in ws) (word ws 1) room (walk_of ws w) t cells) where
-        pub room_refused : length numbers < t.listed → (refused (refusal_at 7 t.listed 0), numbers) ≡ queried ws w numbers
+        pub room_refused : length numbers < t.listed → (refused (answer_of (Refusal.Room t.listed)), numbers) ≡ queried ws w numbers
         unfolding queried
         room_refused h = rw (e9, e8, o.ends, ← o.due, lt-ltb (length numbers) t.listed h)
 
@@ -105,10 +113,10 @@ module _ {ws : List ℤ} {w : Window} {room : List ℤ} {due : ℕ} (h : Due ws 
   pub copied : due ≤ length room → filled (take due room) numbers ≡ over (numbers_of (word ws 1) (listed_in (walk_of ws w))) numbers
   copied g = ap (λ xs. filled xs numbers) (h.front g) ∙ filled_all (numbers_of (word ws 1) (listed_in (walk_of ws w))) numbers (omega (arith, size))
 
-  pub walked_again : (t : Tally) (cells : List ℤ) → Given (size_in ws) (word ws 1) numbers (walk_of ws w) t cells
+  pub walked_again : (r : Outcome Tally Spoiled) (cells : List ℤ) → Given (size_in ws) (word ws 1) numbers (walk_of ws w) r cells
       → cells ≡ over (numbers_of (word ws 1) (listed_in (walk_of ws w))) numbers
-  walked_again t cells g = again (walk_of ws w) h.ends g ∙ filled_all (numbers_of (word ws 1) (listed_in (walk_of ws w))) numbers (omega (arith, size))
+  walked_again r cells g = again (walk_of ws w) h.ends g ∙ filled_all (numbers_of (word ws 1) (listed_in (walk_of ws w))) numbers (omega (arith, size))
     where
-      again : (o : Walked) → is_stopped o ≡ false → Given (size_in ws) (word ws 1) numbers o t cells → cells ≡ filled (numbers_of (word ws 1) (listed_in o)) numbers
+      again : (o : Walked) → is_stopped o ≡ false → Given (size_in ws) (word ws 1) numbers o r cells → cells ≡ filled (numbers_of (word ws 1) (listed_in o)) numbers
       again (walked ps v) e g = g.1
       again stopped e g = clash e

@@ -1,70 +1,82 @@
-// How many numbers a scan makes due; and the numbers of a walk, from where it listed them into the cells lent.
-ghost use Rattle.std.specs.Prelude.{◌≡◌, false, ◌<◌, ◌≤◌, ltb, length};
+// Answer 7 of a scan; and the numbers of a walk, from where it listed them into the cells lent.
+ghost use Rattle.std.specs.Prelude.{◌≡◌, [], ◌∷◌, false, ◌<◌, ◌≤◌, length, IfErr};
 ghost use Rattle.paper.specs.Descriptor.{size_of};
-ghost use Rattle.paper.specs.Answers.{bad_window};
-ghost use Rattle.paper.specs.Orders.{bad_index};
+ghost use Rattle.paper.specs.Answers.{bad_room};
 ghost use Rattle.paper.specs.Results.{over, numbers_of, queried};
 ghost use Rattle.paper.specs.Walk.{word, walk_of};
-ghost use Rattle.scan.specs.Listing.{Ready, met_positions};
 ghost use Rattle.promise.specs.Calls.{listed_in};
+ghost use Rattle.refusals.specs.Orders.{reply_of, Carried, Decided};
+ghost use Rattle.scan.specs.Listing.{Ready, met_positions};
 ghost use Rattle.marks.specs.Querying.{Due};
 
-use paper::{Descriptor, Reply, Window};
+use meeting::Frame;
+use paper::Reply;
+use refusals::Refusal;
+use table::Table;
+use walk::IndexWords;
 
-// How many numbers a scan makes due; where n cells are lent, which hold any, it is enough to say 0.
-pub fn due(table: &[i32], descriptor: Descriptor, window: Window, lent: usize, n: usize) -> usize
-    requires { Ready table.now descriptor window × (n ≡ size_of descriptor) }
-    ensures { (result ≤ 4096) × (ltb lent result ≡ ltb lent (length (met_positions table.now descriptor window))) × (lent < result → result ≡ length (met_positions table.now descriptor window)) }
+// Answer 7 of a scan into so many cells. Where there is a cell for each segment they hold any numbers, and none need be counted.
+pub fn of_room(table: Table<'_>, frame: Frame, lent: usize) -> Result<(), Refusal>
+    requires { Ready table.cells.now table.descriptor }
+    ensures { Decided (bad_room (length (met_positions table.entry.cells.now table.entry.descriptor frame.window)) lent ∷ []) result }
 {
-    if n <= lent {
-        return 0;
+    if table.count() <= lent {
+        return Ok(());
     }
-    scan::due(table, descriptor, window)
+    let due = scan::due(table, frame);
+    if lent < due {
+        return Err(Refusal::Room(due));
+    }
+    Ok(())
 }
 
 // The `due` numbers of a walk into the first cells: from the room that it was walked into where that holds them all, else by a second walk.
-fn write(words: &[i32], window: Window, room: &[i32], numbers: &mut [i32], due: usize)
-    requires { Due words.now window room.now due × (due ≤ length numbers.old) }
-    ensures { numbers.new ≡ over (numbers_of (word words.now 1) (listed_in (walk_of words.now window))) numbers.old }
+fn write(index: IndexWords<'_>, frame: Frame, room: &[i32], numbers: &mut [i32], due: usize)
+    requires { Due index.words.now frame.window room.now due × (due ≤ length numbers.old) }
+    ensures { numbers.new ≡ over (numbers_of (word index.entry.words.now 1) (listed_in (walk_of index.entry.words.now frame.window))) numbers.old }
 {
     if due <= room.len() {
-        rooms::copy(room, numbers, due);
+        numbers[..due].copy_from_slice(&room[..due]);
         return;
     }
-    walk::walk(words, window, numbers);
+    // This walk is not spoiled: the first was not.
+    let _ = index.walk(frame.window, numbers);
 }
 
-// What a query over an index gives for a window, neither of them refused: the walk lists into the room lent, and what it lists is judged before a cell changes.
-fn answer_in(words: &[i32], window: Window, room: &mut [i32], numbers: &mut [i32]) -> Reply
-    requires { ((bad_index words.now).given ≡ false) × ((bad_window window).given ≡ false) }
-    ensures { (result, numbers.new) ≡ queried words.now window numbers.old }
+// What a query over an index gives for a window, in a room of N cells of the call's own: the walk lists into the room, and what it lists is judged before a
+// cell that was lent changes.
+fn in_room<const N: usize>(
+    index: IndexWords<'_>,
+    frame: Frame,
+    numbers: &mut [i32],
+) -> Result<Reply, Refusal>
+    requires { N ≤ 2048 }
+    ensures given { (reply_of result, numbers.new) ≡ queried index.entry.words.now frame.window numbers.old }
+    ensures carried { IfErr result Carried }
 {
-    let tally = walk::walk(words, window, room);
-    if 0 < tally.stopped {
-        return refusals::refusal(10, 0, 0);
-    }
+    let mut room = [0i32; N];
+    let Ok(tally) = index.walk(frame.window, &mut room) else {
+        return Err(Refusal::Spoiled(0));
+    };
     let due = tally.listed;
     if numbers.len() < due {
-        return refusals::refusal(7, due, 0);
+        return Err(Refusal::Room(due));
     }
-    write(words, window, room, numbers, due);
-    refusals::done(due, tally.visits)
+    write(index, frame, &room, numbers, due);
+    Ok(refusals::done(due, tally.visits))
 }
 
-// The same in a room of the call's own. A small index or few cells lent have a small one, since clearing it takes time.
-pub fn answer(words: &[i32], window: Window, numbers: &mut [i32]) -> Reply
-    requires { ((bad_index words.now).given ≡ false) × ((bad_window window).given ≡ false) }
-    ensures { (result, numbers.new) ≡ queried words.now window numbers.old }
+// The same in a room that suits. A small index or few cells lent have a small one, since clearing it takes time.
+pub fn answer(index: IndexWords<'_>, frame: Frame, numbers: &mut [i32]) -> Result<Reply, Refusal>
+    ensures given { (reply_of result, numbers.new) ≡ queried index.entry.words.now frame.window numbers.old }
+    ensures carried { IfErr result Carried }
 {
-    let most = rooms::lesser(tally::whole_at(words, 0, 0), numbers.len());
+    let most = index.count().min(numbers.len());
     if most <= 256 {
-        let mut room = [0i32; 256];
-        return answer_in(words, window, &mut room, numbers);
+        return in_room::<256>(index, frame, numbers);
     }
     if most <= 1024 {
-        let mut room = [0i32; 1024];
-        return answer_in(words, window, &mut room, numbers);
+        return in_room::<1024>(index, frame, numbers);
     }
-    let mut room = [0i32; 2048];
-    answer_in(words, window, &mut room, numbers)
+    in_room::<2048>(index, frame, numbers)
 }

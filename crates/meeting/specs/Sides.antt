@@ -8,7 +8,7 @@ use Rattle.paper.specs.Meeting.{Meets}
 use Rattle.paper.specs.Corners.{overlaps, weight, weights, weighed}
 use Rattle.paper.specs.declared.Segment.{Segment}
 use Rattle.paper.specs.declared.Window.{Window}
-use Rattle.meeting.specs.Bounds.{R, clean, Framed, corners}
+use Rattle.meeting.specs.Bounds.{Framed, corners}
 use Rattle.meeting.specs.Decides.{decides}
 
 -- the weight of point k
@@ -44,11 +44,8 @@ module _ (s : Segment) (w : Window) (frame : Framed w) where
   abbrev sides : Bool
   sides = any (λ z. le_z (pos 0) z) (weights w s) && any (λ z. le_z z (pos 0)) (weights w s)
 
-  pub met_by : {r : Bool} → box ≡ true → r ≡ both_sides s (corners (R w.a) (R w.b) (R w.c) (R w.d)) 4 → (r ≡ weighed w s) × ((r ≡ true) ↔ Meets s w)
-  unfolding any positions
-  met_by {r} h e =
-      let f : r ≡ both_sides s (corners w.a w.b w.c w.d) 4 = rw (clean frame.a, clean frame.b, clean frame.c, clean frame.d) at e in
-      says (f ∙ sides_are w s ∙ box_taken (overlaps w.a w.b s.x1 s.x2) (overlaps w.c w.d s.y1 s.y2) sides h)
+  pub met_by : {r : Bool} → box ≡ true → r ≡ both_sides s (corners w.a w.b w.c w.d) 4 → (r ≡ weighed w s) × ((r ≡ true) ↔ Meets s w)
+  met_by h e = says (e ∙ sides_are w s ∙ box_taken (overlaps w.a w.b s.x1 s.x2) (overlaps w.c w.d s.y1 s.y2) sides h)
 
-  pub not_met : box ≡ false → (false ≡ weighed w s) × ((false ≡ true) ↔ Meets s w)
-  not_met h = says (box_left (overlaps w.a w.b s.x1 s.x2) (overlaps w.c w.d s.y1 s.y2) sides h)
+  pub not_met : {r : Bool} → r ≡ box → r ≡ false → (r ≡ weighed w s) × ((r ≡ true) ↔ Meets s w)
+  not_met e h = says (h ∙ box_left (overlaps w.a w.b s.x1 s.x2) (overlaps w.c w.d s.y1 s.y2) sides (sym e ∙ h))

@@ -1,61 +1,70 @@
 // Whether a segment meets a window: the box comparison first and apart, then the window's four corners weighed against the segment's line.
-// A caller tests `bad_window` and the segment's limits (answers 8 and 5) first.
+// A caller makes a `Frame` of the window (answer 8) and tests the segment's limits (answer 5) first.
 #![tactic(auto)]
 
-ghost use Rattle.std.specs.Prelude.{◌≡◌, true, false, ◌&&◌, ◌↔◌, pos};
+ghost use Rattle.std.specs.Prelude.{◌≡◌, true, false, ◌&&◌, ◌↔◌, pos, IsSome, IfSome};
 ghost use Rattle.std.specs.Int.Signed.{le_z};
 ghost use Rattle.paper.specs.Corners.{overlaps, weight as Weight, weighed};
 ghost use Rattle.paper.specs.Meeting.{Meets};
 ghost use Rattle.paper.specs.Answers.{bad_window, far_off};
-ghost use Rattle.meeting.specs.Bounds.{Small, Near, Framed, SmallPoints};
-ghost use Rattle.meeting.specs.Gap.{least, greatest};
+ghost use Rattle.meeting.specs.Bounds.{Small, Near, SmallPoints, corners};
 ghost use Rattle.meeting.specs.Sides.{both_sides};
 
 use paper::{Segment, Window};
+use table::coordinate_fits;
 
-// Answer 8.
+/// Answer 8.
 pub fn bad_window(window: Window) -> bool
     ensures { result ≡ (bad_window window).given }
 {
-    let a = (-536870912 <= window.a) & (window.a <= 536870912);
-    let b = (-536870912 <= window.b) & (window.b <= 536870912);
-    let c = (-536870912 <= window.c) & (window.c <= 536870912);
-    let d = (-536870912 <= window.d) & (window.d <= 536870912);
+    let a = coordinate_fits(window.a);
+    let b = coordinate_fits(window.b);
+    let c = coordinate_fits(window.c);
+    let d = coordinate_fits(window.d);
     (window.b < window.a) | (window.d < window.c) | !(a & b & c & d)
 }
 
+/// A window that answer 8 passes: its edges are within the limits and in their order.
+#[derive(Clone, Copy)]
+pub struct Frame {
+    pub window: Window,
+    pub ghost good: { (bad_window window).given ≡ false },
+}
+
+impl Frame {
+    /// None where answer 8 is given.
+    pub fn new(window: Window) -> Option<Frame>
+        ensures some { IsSome result ↔ ((bad_window window).given ≡ false) }
+        ensures value { IfSome result (λ frame. frame.window ≡ window) }
+    {
+        if bad_window(window) {
+            return None;
+        }
+        Some(Frame { window })
+    }
+}
+
 // ---- the boxes
-
-fn smaller(x: i64, y: i64) -> i64
-    ensures { result ≡ least x y }
-{
-    if x < y { x } else { y }
-}
-
-fn larger(x: i64, y: i64) -> i64
-    ensures { result ≡ greatest x y }
-{
-    if x < y { y } else { x }
-}
 
 // How far the edges lo..hi and the ends u1, u2 are from each other on one axis; 0 or less where they overlap.
 fn gap(lo: i64, hi: i64, u1: i64, u2: i64) -> i64
     requires { Small lo × Small hi × Small u1 × Small u2 }
     ensures { le_z result (pos 0) ≡ overlaps lo hi u1 u2 }
 {
-    let after = smaller(u1, u2) - hi;
-    let before = lo - larger(u1, u2);
-    larger(after, before)
+    let after = u1.min(u2) - hi;
+    let before = lo - u1.max(u2);
+    after.max(before)
 }
 
 // Whether the boxes overlap on both axes. One number is compared once: comparisons joined by `&` would be as many branches.
-fn boxes_overlap(segment: Segment, window: Window) -> bool
-    requires { Near segment × Framed window }
-    ensures { result ≡ (overlaps window.a window.b segment.x1 segment.x2 && overlaps window.c window.d segment.y1 segment.y2) }
+fn boxes_overlap(segment: Segment, frame: Frame) -> bool
+    requires { Near segment }
+    ensures { let window = frame.window in result ≡ (overlaps window.a window.b segment.x1 segment.x2 && overlaps window.c window.d segment.y1 segment.y2) }
 {
+    let window = frame.window;
     let across = gap(window.a, window.b, segment.x1, segment.x2);
     let along = gap(window.c, window.d, segment.y1, segment.y2);
-    larger(across, along) <= 0
+    across.max(along) <= 0
 }
 
 // ---- the corners
@@ -68,6 +77,19 @@ fn weight(segment: Segment, x: i64, y: i64) -> i64
     (segment.x2 - segment.x1) * (y - segment.y1) - (segment.y2 - segment.y1) * (x - segment.x1)
 }
 
+// low-left, low-right, high-left, high-right
+fn corners(frame: Frame) -> [[i64; 2]; 4]
+    ensures { let window = frame.window in result ≡ corners window.a window.b window.c window.d }
+{
+    let window = frame.window;
+    [
+        [window.a, window.c],
+        [window.b, window.c],
+        [window.a, window.d],
+        [window.b, window.d],
+    ]
+}
+
 // Whether the corners are not all strictly on one side of the segment's line.
 fn both_sides(segment: Segment, corners: [[i64; 2]; 4]) -> bool
     requires { Near segment × SmallPoints corners }
@@ -75,35 +97,20 @@ fn both_sides(segment: Segment, corners: [[i64; 2]; 4]) -> bool
 {
     let mut above = false;
     let mut below = false;
-    let mut k = 0;
-    while k < 4 {
-        let corner = corners[k];
+    for corner in corners {
         let side = weight(segment, corner[0], corner[1]);
-        above = above | (0 <= side);
-        below = below | (side <= 0);
-        k += 1;
+        above |= 0 <= side;
+        below |= side <= 0;
     }
     above & below
 }
 
 // ---- the whole
 
-// Whether a segment meets a window, both within the limits.
-pub fn meets(segment: Segment, window: Window) -> bool
-    requires { (far_off segment ≡ false) × ((bad_window window).given ≡ false) }
-    ensures { (result ≡ weighed window segment) × ((result ≡ true) ↔ Meets segment window) }
+/// Whether a segment within the limits meets a window.
+pub fn meets(segment: Segment, frame: Frame) -> bool
+    requires { far_off segment ≡ false }
+    ensures { (result ≡ weighed frame.window segment) × ((result ≡ true) ↔ Meets segment frame.window) }
 {
-    if !boxes_overlap(segment, window) {
-        return false;
-    }
-    // low-left, low-right, high-left, high-right
-    both_sides(
-        segment,
-        [
-            [window.a, window.c],
-            [window.b, window.c],
-            [window.a, window.d],
-            [window.b, window.d],
-        ],
-    )
+    boxes_overlap(segment, frame) && both_sides(segment, corners(frame))
 }

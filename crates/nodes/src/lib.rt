@@ -1,216 +1,182 @@
-// The nodes of an index, walked over any words: a loop, with the right nodes that are still to be walked on a small lent stack.
+// The nodes of an index, walked over any words: a loop, with the right nodes that are still to be walked on a small stack.
 #![tactic(auto)]
 
-ghost use Rattle.std.specs.Prelude.{◌≡◌, ◌+◌, ◌*◌, ◌^◌, ◌<◌, ◌≤◌, length};
-ghost use Rattle.paper.specs.Walk.{node_walk};
-ghost use Rattle.paper.specs.Words.{levels_at};
+ghost use Rattle.std.specs.Prelude.{◌≡◌, ◌+◌, ◌-◌, ◌*◌, ◌^◌, ◌<◌, ◌≤◌, length, IfOk, MatchResult};
+ghost use Rattle.lists.specs.Plain.{half};
+ghost use Rattle.paper.specs.Walk.{count_word};
 ghost use Rattle.tally.specs.State.{Along};
-ghost use Rattle.tally.specs.Reads.{Ready};
-ghost use Rattle.nodes.specs.Ends.{Ended, Counted};
-ghost use Rattle.nodes.specs.Nodes.{Turned, Deep};
-ghost use Rattle.nodes.specs.Stacks.{pushed};
+ghost use Rattle.tally.specs.Reads.{count};
+ghost use Rattle.nodes.specs.Ends.{Ended, EndsCut};
+ghost use Rattle.nodes.specs.Nodes.{Deep, Turned, TurnCut, node_events, run_of, left_of, right_of};
 
+use arrayvec::ArrayVec;
+use axes::Word;
 use paper::Window;
 use slots::slots;
-use tally::{Index, Tally, coordinate_at, see, stop, whole_at};
-use whole::cell;
+use tally::{Index, Spoiled, Tally};
 
-// How the first and last x of a node lie: a spoiled word, beside the window, inside it, or neither.
-#[derive(Clone, Copy)]
+/// How the first and last x of a node lie: beside the window, inside it, or neither.
+#[derive(Clone, Copy, Debug, PartialEq, Eq)]
 pub enum Ends {
-    Bad,
     Out,
     In,
     Across,
 }
 
-fn ends_of(words: &[i32], n: usize, window: Window, size: usize, z: usize) -> Ends
-    requires n_bound { (n ≤ 65536) × (levels_at n ≤ length words.now) }
-    requires size_nonzero { (0 < size) × (z + size ≤ length words.now) }
-    ensures { Ended words.now n window size z result }
-{
-    let first = whole_at(words, z, n);
-    if n <= first {
-        return Ends::Bad;
-    }
-    let last = whole_at(words, z + size - 1, n);
-    if n <= last {
-        return Ends::Bad;
-    }
-    let first_x = cell(words, coordinate_at(first, 0));
-    let last_x = cell(words, coordinate_at(last, 0));
-    if last_x < window.a {
-        return Ends::Out;
-    }
-    if window.b < first_x {
-        return Ends::Out;
-    }
-    if first_x < window.a {
-        return Ends::Across;
-    }
-    if window.b < last_x {
-        return Ends::Across;
-    }
-    Ends::In
+/// A node that is walked from its slot p on: its size, the word of its level at which it begins, and how many levels are below its own.
+#[derive(Clone, Copy, Debug, Default, PartialEq, Eq)]
+pub struct Node {
+    pub levels: usize,
+    pub size: usize,
+    pub p: usize,
+    pub at: usize,
 }
 
-// Left p of a node: the count at slot p, or the left size where p is the node's size; more than p where the word is spoiled.
-fn count_at(words: &[i32], n: usize, size: usize, p: usize, at: usize) -> usize
-    requires p_le_size { p ≤ size }
-    requires size_in_bounds { at + n + size ≤ length words.now }
-    ensures { Counted words.now n size p at result }
-{
-    let left = (size + 1) / 2;
-    if p == size {
-        return left;
-    }
-    let count = whole_at(words, at + n + p, p + 1);
-    if p < count {
-        return p + 1;
-    }
-    if left < count {
-        return p + 1;
-    }
-    if size - left < p - count {
-        return p + 1;
-    }
-    count
-}
-
-// What one node leaves: whether the walk goes on below it, and then left p.
-#[derive(Clone, Copy)]
+/// What one node does itself, and where the walk goes on below it, left p.
+#[derive(Clone, Copy, Debug, PartialEq, Eq)]
 pub struct Turn {
     pub tally: Tally,
-    pub below: bool,
-    pub left: usize,
+    pub left: Option<usize>,
 }
 
-fn one_node(
-    words: &[i32],
-    numbers: &mut [i32],
-    index: Index,
-    window: Window,
-    tally: Tally,
-    size: usize,
-    p: usize,
-    at: usize,
-    z: usize,
-) -> Turn
-    requires ready { Ready index words.now }
-    requires size_nonzero { (0 < size) × (p ≤ size) × (at ≤ z) × (z + index.n + size ≤ length words.now) }
-    requires stopped_value { (tally.stopped ≡ 0) × (tally.visits + size + 1 < 2 ^ 20) }
-    ensures { Turned words.now index window size p at z (tally, numbers.old) result numbers.new }
-{
-    let seen = see(tally);
-    let ends = ends_of(words, index.n, window, size, z);
-    match ends {
-        Ends::Bad => Turn {
-            tally: stop(seen),
-            below: false,
-            left: 0,
-        },
-        Ends::Out => Turn {
-            tally: seen,
-            below: false,
-            left: 0,
-        },
-        Ends::In => Turn {
-            tally: slots(words, numbers, index, window, seen, size - p, at + p),
-            below: false,
-            left: 0,
-        },
-        Ends::Across => {
-            let count = count_at(words, index.n, size, p, at);
-            if p < count {
-                return Turn {
-                    tally: stop(seen),
-                    below: false,
-                    left: 0,
-                };
-            }
-            Turn {
+impl Node {
+    // How it lies, by the last level's words of it.
+    fn ends(self, index: Index, window: Window) -> Result<Ends, Spoiled>
+        requires { Deep index.words.now index.n self }
+        ensures { MatchResult result (Ended index.entry.words.now index.entry.n window self.size (run_of index.entry.n self)) (λ _. EndsCut index.entry.words.now index.entry.n window self.size (run_of index.entry.n self)) }
+    {
+        let z = self.at + 2 * index.n * self.levels;
+        let first = index.position_at(z)?;
+        let last = index.position_at(z + self.size - 1)?;
+        let first_x = index.coordinate(first, Word::X1);
+        let last_x = index.coordinate(last, Word::X1);
+        if last_x < window.a {
+            return Ok(Ends::Out);
+        }
+        if window.b < first_x {
+            return Ok(Ends::Out);
+        }
+        if first_x < window.a {
+            return Ok(Ends::Across);
+        }
+        if window.b < last_x {
+            return Ok(Ends::Across);
+        }
+        Ok(Ends::In)
+    }
+
+    // Left p: the count at slot p, or the left size where p is the node's size.
+    fn count(self, index: Index) -> Result<usize, Spoiled>
+        requires p { self.p ≤ self.size }
+        requires words { self.at + index.n + self.size ≤ length index.words.now }
+        ensures { result ≡ count self.p (half self.size) (self.size - half self.size) (count_word index.entry.words.now index.entry.n self.size self.p self.at) }
+    {
+        let left = (self.size + 1) / 2;
+        if self.p == self.size {
+            return Ok(left);
+        }
+        match index.whole_at(self.at + index.n + self.p) {
+            Some(count) if count <= self.p && count <= left && self.p - count <= self.size - left =>
+                Ok(count),
+            _ => Err(Spoiled),
+        }
+    }
+
+    // Its left node one level below, from the slot that left p says.
+    fn left(self, n: usize, count: usize) -> Node
+        requires { (0 < self.levels) × (self.at + 2 * n + self.size < 2 ^ 63) }
+        ensures { result ≡ left_of n self count }
+    {
+        Node {
+            levels: self.levels - 1,
+            size: (self.size + 1) / 2,
+            p: count,
+            at: self.at + 2 * n,
+        }
+    }
+
+    // Its right node one level below, from the slot that is the rest of p.
+    fn right(self, n: usize, count: usize) -> Node
+        requires { (0 < self.levels) × (self.at + 2 * n + self.size < 2 ^ 63) × (count ≤ self.p) }
+        ensures { result ≡ right_of n self count }
+    {
+        let left = (self.size + 1) / 2;
+        Node {
+            levels: self.levels - 1,
+            size: self.size - left,
+            p: self.p - count,
+            at: self.at + 2 * n + left,
+        }
+    }
+
+    fn enter(
+        self,
+        index: Index,
+        numbers: &mut [i32],
+        window: Window,
+        tally: Tally,
+    ) -> Result<Turn, Spoiled>
+        requires deep { Deep index.words.now index.n self }
+        requires few { tally.visits + self.size + 1 < 2 ^ 20 }
+        ensures { MatchResult result (λ turn. Turned index.entry.words.now index.entry.n index.entry.lower window self tally numbers.old turn numbers.new) (λ _. TurnCut index.entry.words.now index.entry.n index.entry.lower window self tally numbers.old numbers.new) }
+    {
+        let seen = tally.seen();
+        match self.ends(index, window)? {
+            Ends::Out => Ok(Turn {
                 tally: seen,
-                below: true,
-                left: count,
+                left: None,
+            }),
+            Ends::In => {
+                let walked = slots(
+                    index,
+                    numbers,
+                    window,
+                    seen,
+                    self.size - self.p,
+                    self.at + self.p,
+                )?;
+                Ok(Turn {
+                    tally: walked,
+                    left: None,
+                })
+            }
+            Ends::Across => {
+                let count = self.count(index)?;
+                Ok(Turn {
+                    tally: seen,
+                    left: Some(count),
+                })
             }
         }
     }
-}
 
-// A node is put on the stack.
-fn push(stack: &mut [usize], depth: usize, levels: usize, size: usize, p: usize, at: usize) -> usize
-    requires { (depth ≤ 17) × (72 ≤ length stack.old) }
-    ensures { (result ≡ depth + 1) × (stack.new ≡ pushed stack.old depth levels size p at) }
-{
-    stack[4 * depth] = levels;
-    stack[4 * depth + 1] = size;
-    stack[4 * depth + 2] = p;
-    stack[4 * depth + 3] = at;
-    depth + 1
-}
-
-// A node with some levels below its own, from its slot p on. The walk of the current one comes first, then that of each on the stack.
-pub fn nodes(
-    words: &[i32],
-    numbers: &mut [i32],
-    stack: &mut [usize],
-    index: Index,
-    window: Window,
-    tally0: Tally,
-    levels0: usize,
-    size0: usize,
-    p0: usize,
-    at0: usize,
-) -> Tally
-    requires ready { Ready index words.now }
-    requires size0_nonzero { (0 < size0) × Deep words.now index.n levels0 size0 p0 at0 }
-    requires levels0_bound { (levels0 ≤ 18) × (72 ≤ length stack.old) }
-    requires size0_bound { tally0.visits + 3 * size0 < 2 ^ 20 }
-    ensures { Along index.n index.lower (node_walk words.now index.n window levels0 size0 p0 at0) (3 * size0) (tally0, numbers.old) (result, numbers.new) }
-{
-    if 0 < tally0.stopped {
-        return tally0;
-    }
-    let n = index.n;
-    let mut depth: usize = 0;
-    let mut tally = tally0;
-    let mut levels = levels0;
-    let mut size = size0;
-    let mut p = p0;
-    let mut at = at0;
-    while 0 < size {
-        let turn = one_node(
-            words,
-            numbers,
-            index,
-            window,
-            tally,
-            size,
-            p,
-            at,
-            at + 2 * n * levels,
-        );
-        let next = turn.tally;
-        tally = next;
-        if 0 < tally.stopped {
-            return tally;
+    /// The walk of a node: of itself and of what lies below it, by a loop over the nodes that are still to be walked.
+    pub fn walk(
+        self,
+        index: Index,
+        numbers: &mut [i32],
+        window: Window,
+        mut tally: Tally,
+    ) -> Result<Tally, Spoiled>
+        requires deep { Deep index.words.now index.n self }
+        requires levels { self.levels ≤ 18 }
+        requires few { tally.visits + 3 * self.size < 2 ^ 20 }
+        ensures { Along index.entry.n index.entry.lower (node_events index.entry.words.now index.entry.n window self) (3 * self.size) tally numbers.old result numbers.new }
+    {
+        // Right nodes, the next one last. They halve: there are never more than there are levels.
+        let mut pending: ArrayVec<Node, 18> = ArrayVec::new();
+        let mut next = Some(self);
+        while let Some(node) = next {
+            let turn = node.enter(index, numbers, window, tally)?;
+            tally = turn.tally;
+            next = match turn.left {
+                Some(count) => {
+                    pending.push(node.right(index.n, count));
+                    Some(node.left(index.n, count))
+                }
+                None => pending.pop(),
+            };
         }
-        if turn.below {
-            let left = (size + 1) / 2;
-            levels = levels - 1;
-            at = at + 2 * n;
-            depth = push(stack, depth, levels, size - left, p - turn.left, at + left);
-            size = left;
-            p = turn.left;
-        } else if 0 < depth {
-            depth = depth - 1;
-            levels = stack[4 * depth];
-            size = stack[4 * depth + 1];
-            p = stack[4 * depth + 2];
-            at = stack[4 * depth + 3];
-        } else {
-            return tally;
-        }
+        Ok(tally)
     }
-    tally
 }

@@ -1,261 +1,214 @@
--- A queue walked with a stack: what is left to do is the current queue's walk, then that of each queue on the stack.
-use Rattle.std.specs.Prelude.{◌≡◌, refl, Bool, true, false, cond, List, ◌++◌, ℕ, zero, suc, ◌+◌, ◌-◌, ◌*◌, ◌/◌, ◌^◌, ◌≤◌, ◌<◌, length, get_or, set, ℤ}
-use Rattle.std.proofs.Common.{sym, ap, ap₂, ◌∙◌, append-nil, append_assoc, arith, pow-suc, length-set, get_or-set_same, get_or-set_other}
+-- A queue walked with a stack: what is left to do is the next queue's walk, then that of each queue that waits, the last first.
+use Rattle.std.specs.Prelude.{◌≡◌, refl, Bool, true, false, cond, ltb, List, [], ◌∷◌, ◌++◌, ℕ, zero, suc, ◌+◌, ◌-◌, ◌*◌, ◌^◌, ◌≤◌, ◌<◌, length, ℤ, Option, Some, None, Result, Ok, Err, IsErr}
+use Rattle.std.proofs.Common.{ltb-true, sym, ap, ◌∙◌, append-nil, append_assoc, subst, add-zero, zero-add, length-append, arith, pow-suc}
 use Rattle.paper.specs.Walk.{Event}
 use Rattle.paper.specs.declared.Window.{Window}
+use Rattle.axes.specs.declared.End.{End}
 use Rattle.tally.specs.State.{State, after, after_end, after_append, after_stopped, Along}
-use Rattle.tally.specs.Stack.{pending, pending_none, pending_more, pending_same, total, total_none, total_more, total_same, below_suc}
-use Rattle.tally.specs.declared.Index.{Index}
+use Rattle.tally.specs.Stack.{pending, pending_none, pending_more}
+use Rattle.tally.specs.declared.Spoiled.{Spoiled}
+use Rattle.tally.specs.declared.Tally.{Tally}
 use Rattle.queues.specs.declared.Band.{Band}
+use Rattle.queues.specs.declared.Queue.{Queue}
 use Rattle.queues.specs.declared.Head.{Head}
-use Rattle.queues.specs.Queues.{queue_of, Headed, queue_none, queue_parts, queue_if}
+use Rattle.queues.specs.Queues.{queue_of, due_of, size_of, due_size, of_some, queue_due, Part, Headed}
 
--- place and size of the stacked queue j
-abbrev pub place_of : List ℕ → ℕ → ℕ
-place_of stack j = get_or stack (2 * j) 0
+-- what waited, the parts of a queue, the queue that is walked next, and what waits then
+abbrev pub Went : List Queue → (left right next : Option Queue) → List Queue → Type 0
+Went old (Some l) (Some r) next new = (next ≡ Some l) × (new ≡ old ++ (r ∷ []))
+Went old (Some l) None next new = (next ≡ Some l) × (new ≡ old)
+Went old None (Some r) next new = (next ≡ Some r) × (new ≡ old)
+Went old None None (Some q) new = old ≡ new ++ (q ∷ [])
+Went old None None None new = (old ≡ []) × (new ≡ [])
 
-abbrev pub size_at : List ℕ → ℕ → ℕ
-size_at stack j = get_or stack (2 * j + 1) 0
+unfoldable pub total : List Queue → ℕ
+total [] = 0
+total (q ∷ qs) = q.size + total qs
 
-abbrev pub pushed : List ℕ → (d at size : ℕ) → List ℕ
-pushed stack d at size = set (set stack (2 * d) at) (2 * d + 1) size
+total_more : (qs : List Queue) (q : Queue) → total (qs ++ (q ∷ [])) ≡ total qs + q.size
+unfolding total
+total_more [] q = omega arith
+total_more (p ∷ qs) q = omega (arith, total_more qs q)
 
--- the loop's measure: what is left to visit, and the stack's height
-abbrev pub work : List ℕ → ℕ → ℕ → ℕ
-work stack d s = 2 * (s + total (size_at stack) d) + d
+-- what is walked next takes from the work that is left; what waits is not less
+pub went_size : (old : List Queue) (l r o : Option Queue) (new : List Queue) → Went old l r o new → size_of o + total new ≡ size_of l + size_of r + total old
+unfolding total
+went_size old (Some l) (Some r) o new w = omega (arith, ap size_of w.0, ap total w.1, total_more old r)
+went_size old (Some l) None o new w = omega (arith, ap size_of w.0, ap total w.1)
+went_size old None (Some r) o new w = omega (arith, ap size_of w.0, ap total w.1)
+went_size old None None (Some q) new w = omega (arith, ap total w, total_more new q)
+went_size old None None None new w = omega (arith, ap total w.0, ap total w.1)
 
-module _ (stack : List ℕ) (d a s : ℕ) where
-  kept : (i : ℕ) → i < 2 * d → get_or (pushed stack d a s) i 0 ≡ get_or stack i 0
-  kept i h = get_or-set_other (set stack (2 * d) a) (2 * d + 1) i s 0 (λ e. omega arith) ∙ get_or-set_other stack (2 * d) i a 0 (λ e. omega arith)
+-- ---- a queue that waits at height k: it is over some, lies in the words, and is the smaller the higher it lies
+module _ (ws : List ℤ) where
+  pub record Fits (k : ℕ) (q : Queue) : Type 0 where
+    pub some : 0 < q.size
+    pub inside : q.at + 2 * q.size ≤ length ws
+    pub small : q.size < 2 ^ (20 - k)
 
-  place_kept : (j : ℕ) → j < d → place_of (pushed stack d a s) j ≡ place_of stack j
-  place_kept j h = kept (2 * j) (omega arith)
+  abbrev pub Held : ℕ → List Queue → Type 0
+  Held k [] = Unit {0}
+  Held k (q ∷ qs) = Fits k q × Held (suc k) qs
 
-  size_kept : (j : ℕ) → j < d → size_at (pushed stack d a s) j ≡ size_at stack j
-  size_kept j h = kept (2 * j + 1) (omega arith)
+  -- one is put on top, or taken from it
+  held_more : (k : ℕ) (qs : List Queue) (q : Queue) → Held k qs → Fits (k + length qs) q → Held k (qs ++ (q ∷ []))
+  held_more k [] q h f = (rw add-zero at f, tt)
+  held_more k (p ∷ qs) q h f = let e : k + suc (length qs) ≡ suc k + length qs = omega arith in (h.0, held_more (suc k) qs q h.1 (rw e at f))
 
-  module _ (room : 2 * d + 1 < length stack) where
-    size_top : size_at (pushed stack d a s) d ≡ s
-    size_top = get_or-set_same (set stack (2 * d) a) (2 * d + 1) s 0 (omega (arith, length-set stack (2 * d) a))
+  held_rest : (k : ℕ) (qs : List Queue) (q : Queue) → Held k (qs ++ (q ∷ [])) → Held k qs × Fits (k + length qs) q
+  held_rest k [] q h = (tt, rw add-zero h.0)
+  held_rest k (p ∷ qs) q h =
+      let r = held_rest (suc k) qs q h.1 in
+      let e : k + suc (length qs) ≡ suc k + length qs = omega arith in
+      ((h.0, r.0), rw e r.1)
 
-    place_top : place_of (pushed stack d a s) d ≡ a
-    place_top = get_or-set_other (set stack (2 * d) a) (2 * d + 1) (2 * d) s 0 (λ e. omega arith) ∙ get_or-set_same stack (2 * d) a 0 (omega arith)
+  -- a queue over some is not at the stack's end
+  shallow : (k : ℕ) (q : Queue) → Fits k q → k ≤ 19
+  shallow k q f = go (20 - k) refl
+    where
+      go : (e : ℕ) → 20 - k ≡ e → k ≤ 19
+      go zero e = absurd (omega (arith, f.some, f.small, ap (λ (b : ℕ). 2 ^ b) e))
+      go (suc e) g = omega arith
 
--- a queue of some size is not at the stack's end
-shallow : (d s : ℕ) → 0 < s → d ≤ 20 → s < 2 ^ (20 - d) → d ≤ 19
-shallow d s h g q = go (20 - d) refl
-  where
-    go : (e : ℕ) → 20 - d ≡ e → d ≤ 19
-    go zero e = absurd (omega (arith, ap (λ (b : ℕ). 2 ^ b) e))
-    go (suc e) f = omega arith
+  -- the next queue, above those that wait; where there is none, none waits
+  abbrev Above : List Queue → Option Queue → Type 0
+  Above qs (Some q) = Fits (length qs) q
+  Above qs None = qs ≡ []
 
-half_left : (b : Bool) (m k : ℕ) → k ≡ cond b m 0 → k ≤ m
-half_left true m k e = omega arith
-half_left false m k e = omega arith
+  -- a part of a queue lies in the words, and is smaller by half
+  part_fits : (k : ℕ) (q p : Queue) → Fits k q → Part q (Some p) → Fits (suc k) p
+  part_fits k q p f h = record {
+    some = h.0;
+    inside = omega (arith, h.2, f.inside);
+    small =
+        let w : 20 - k ≡ suc (20 - suc k) = omega (arith, shallow k q f) in
+        omega (arith, h.1, f.small, ap (λ (b : ℕ). 2 ^ b) w ∙ pow-suc 2 (20 - suc k));
+  }
 
-module _ (ws : List ℤ) (index : Index) (band : Band) (far : Bool) where
-  abbrev left : Window → List ℕ → ℕ → List Event
-  left w stack d = pending (λ j. queue_of ws index band far w (size_at stack j) (place_of stack j)) d
+  lower_fits : (k : ℕ) (q : Queue) → Fits (suc k) q → Fits k q
+  lower_fits k q f = record {
+    some = f.some;
+    inside = f.inside;
+    small =
+        let w : 20 - k ≡ suc (20 - suc k) = omega (arith, shallow (suc k) q f) in
+        omega (arith, f.small, ap (λ (b : ℕ). 2 ^ b) w ∙ pow-suc 2 (20 - suc k));
+  }
 
-  -- a stacked queue: it has something to visit, lies in the words, and is the smaller the higher it lies
-  abbrev Held : List ℕ → ℕ → Type 0
-  Held stack j = (place_of stack j + 2 * size_at stack j ≤ length ws) × (size_at stack j < 2 ^ (20 - j)) × (0 < size_at stack j)
+  -- what waits, and what is walked next, after one that was next
+  went_above : (q : Queue) (old new : List Queue) (l r o : Option Queue) → Fits (length old) q → Held 0 old → Part q l → Part q r → Went old l r o new → Held 0 new × Above new o
+  went_above q old new (Some l) (Some r) o f h a b w =
+      let g : Fits (length old) r = lower_fits (length old) r (part_fits (length old) q r f b) in
+      let e : length new ≡ suc (length old) = omega (arith, ap length w.1, length-append old (r ∷ [])) in (
+        subst (Held 0) (sym w.1) (held_more 0 old r h (rw zero-add g)),
+        subst (Above new) (sym w.0) (rw e (part_fits (length old) q l f a)),
+      )
+  went_above q old new (Some l) None o f h a b w = (subst (Held 0) (sym w.1) h, subst (Above new) (sym w.0) (rw w.1 (lower_fits (length old) l (part_fits (length old) q l f a))))
+  went_above q old new None (Some r) o f h a b w = (subst (Held 0) (sym w.1) h, subst (Above new) (sym w.0) (rw w.1 (lower_fits (length old) r (part_fits (length old) q r f b))))
+  went_above q old new None None (Some p) f h a b w = let g = held_rest 0 new p (subst (Held 0) w h) in (g.0, rw zero-add at g.1)
+  went_above q old new None None None f h a b w = (subst (Held 0) (sym w.1) tt, w.1)
 
-  -- the loop's invariant
-  pub record Stacked (height s₀ i₀ : ℕ) (st₀ : State) (stack : List ℕ) (d s i : ℕ) (st : State) : Type 0 where
-    pub rest : (w : Window) → after index.n index.lower (queue_of ws index band far w s₀ i₀) st₀ ≡ after index.n index.lower (queue_of ws index band far w s i ++ left w stack d) st
-    pub inside : i + 2 * s ≤ length ws
-    pub held : (j : ℕ) → j < d → Held stack j
-    pub deep : d ≤ 20
-    pub small : s < 2 ^ (20 - d)
-    pub going : st.0.stopped ≡ 0
-    pub visits : st.0.visits + s + total (size_at stack) d ≤ st₀.0.visits + s₀
-    pub few : st₀.0.visits + s₀ < 2 ^ 20
-    pub long : length st.1 ≡ length st₀.1
-    pub tall : length stack ≡ height
-    pub room : 40 ≤ height
+-- ---- the events that are left, before and after
+went_rest : (f : Queue → List Event) (old new : List Queue) (l r o : Option Queue) → Went old l r o new → (of_some f l ++ of_some f r) ++ pending f old ≡ of_some f o ++ pending f new
+went_rest f old new (Some l) (Some r) o w =
+    append_assoc (f l) (f r) (pending f old)
+    ∙ ap (λ (x : List Event). f l ++ x) (sym (pending_more f old r))
+    ∙ (λ k. of_some f (sym w.0 k) ++ pending f (sym w.1 k))
+went_rest f old new (Some l) None o w = ap (λ (x : List Event). x ++ pending f old) (append-nil (f l)) ∙ (λ k. of_some f (sym w.0 k) ++ pending f (sym w.1 k))
+went_rest f old new None (Some r) o w = λ k. of_some f (sym w.0 k) ++ pending f (sym w.1 k)
+went_rest f old new None None (Some p) w = ap (pending f) w ∙ pending_more f new p
+went_rest f old new None None None w = λ k. pending f ((w.0 ∙ sym w.1) k)
 
-  module _ (height s₀ i₀ : ℕ) (st₀ : State) where
-    -- nothing is walked once a spoiled word has been read
-    pub stack_none : 0 < st₀.0.stopped → (w : Window) → Along index.n index.lower (queue_of ws index band far w s₀ i₀) s₀ st₀ st₀
-    stack_none h w = record { came = sym (after_stopped index.n index.lower (queue_of ws index band far w s₀ i₀) st₀ h); visits = omega arith }
+module _ (ws : List ℤ) (n : ℕ) (band : Band) (end : End) (first : ℤ) where
+  abbrev todo : Window → Option Queue → List Queue → List Event
+  todo w o qs = of_some (queue_of ws n band end w) o ++ pending (queue_of ws n band end w) qs
 
-    pub stack_start : (stack : List ℕ) → length stack ≡ height → 40 ≤ height → i₀ + 2 * s₀ ≤ length ws → st₀.0.visits + s₀ < 2 ^ 20 → st₀.0.stopped ≡ 0
-        → Stacked height s₀ i₀ st₀ stack 0 s₀ i₀ st₀
-    stack_start stack t g h v o = record {
-      rest = λ w. ap (λ (es : List Event). after index.n index.lower es st₀)
-          (sym (append-nil (queue_of ws index band far w s₀ i₀)) ∙ ap (λ (es : List Event). queue_of ws index band far w s₀ i₀ ++ es) (sym (pending_none _)));
-      inside = h;
-      held = λ j l. absurd (omega arith);
-      deep = omega arith;
-      small = omega arith;
-      going = o;
-      visits = omega (arith, total_none (size_at stack));
+  module _ (q₀ : Queue) (t₀ : Tally) (cells₀ : List ℤ) where
+    -- the loop's invariant
+    pub record Stacked (qs : List Queue) (o : Option Queue) (t : Tally) (cells : List ℤ) : Type 0 where
+      pub rest : (w : Window) → after n first (queue_of ws n band end w q₀) (Ok t₀, cells₀) ≡ after n first (todo w o qs) (Ok t, cells)
+      pub held : Held ws 0 qs
+      pub above : Above ws qs o
+      pub visits : t.visits + size_of o + total qs ≤ t₀.visits + q₀.size
+      pub few : t₀.visits + q₀.size < 2 ^ 20
+
+    -- nothing waits, and the queue is next, where it is over some
+    pub stack_start : (qs : List Queue) (o : Option Queue) → qs ≡ [] → o ≡ due_of true q₀ → q₀.at + 2 * q₀.size ≤ length ws → t₀.visits + q₀.size < 2 ^ 20 → Stacked qs o t₀ cells₀
+    unfolding total
+    stack_start qs o e d h v = rw (e, d) (record {
+      rest = λ w. let f = queue_of ws n band end w in
+          ap (λ (x : List Event). after n first x (Ok t₀, cells₀)) (sym (append-nil (f q₀)) ∙ (λ k. queue_due ws n band end w q₀ true k ++ sym (pending_none f) k));
+      held = tt;
+      above = go (ltb 0 q₀.size) refl;
+      visits = omega (arith, due_size true q₀);
       few = v;
-      long = refl;
-      tall = t;
-      room = g;
-    }
+    })
+      where
+        go : (t : Bool) → ltb 0 q₀.size ≡ t → Above ws [] (cond t (Some q₀) None)
+        go true z = record { some = ltb-true 0 q₀.size z; inside = h; small = omega (arith, v) }
+        go false z = refl
 
-    module _ (stack : List ℕ) (d s i : ℕ) (st : State) (x : Stacked height s₀ i₀ st₀ stack d s i st) where
-      pub stack_end : s ≡ 0 → d ≡ 0 → (w : Window) → Along index.n index.lower (queue_of ws index band far w s₀ i₀) s₀ st₀ st
-      stack_end es ed w = record {
-        came = sym (x.rest w
-            ∙ ap₂ (λ (a b : ℕ). after index.n index.lower (queue_of ws index band far w a i ++ left w stack b) st) es ed
-            ∙ ap₂ (λ (a b : List Event). after index.n index.lower (a ++ b) st) (queue_none ws index band far w i) (pending_none _)
-            ∙ after_end index.n index.lower st);
-        visits = omega (arith, x.visits);
-      }
-
-      -- one queue is done: the next is taken from the stack
-      pub stack_pop : (c : ℕ) → s ≡ 0 → d ≡ suc c → Stacked height s₀ i₀ st₀ stack c (size_at stack c) (place_of stack c) st
-      stack_pop c es ed =
-          let h = x.held c (omega arith) in
+    module _ (qs : List Queue) (o : Option Queue) (t : Tally) (cells : List ℤ) (x : Stacked qs o t cells) where
+      pub stack_end : o ≡ None → (w : Window) → Along n first (queue_of ws n band end w q₀) q₀.size t₀ cells₀ (Ok t) cells
+      stack_end e w =
+          let z : qs ≡ [] = subst (Above ws qs) e x.above in
           record {
-            rest = λ w. x.rest w
-                ∙ ap₂ (λ (a b : ℕ). after index.n index.lower (queue_of ws index band far w a i ++ left w stack b) st) es ed
-                ∙ ap₂ (λ (a b : List Event). after index.n index.lower (a ++ b) st) (queue_none ws index band far w i) (pending_more _ c);
-            inside = h.0;
-            held = λ j l. x.held j (omega arith);
-            deep = omega (arith, x.deep);
-            small = h.1;
-            going = x.going;
-            visits = omega (arith, x.visits, ap (total (size_at stack)) ed, total_more (size_at stack) c);
-            few = x.few;
-            long = x.long;
-            tall = x.tall;
-            room = x.room;
+            came = sym (x.rest w
+                ∙ (λ k. after n first (todo w (e k) (z k)) (Ok t, cells))
+                ∙ ap (λ (y : List Event). after n first y (Ok t, cells)) (pending_none (queue_of ws n band end w))
+                ∙ after_end n first (Ok t, cells));
+            visits = omega (arith, x.visits);
           }
 
-      pub stack_room : 0 < s → d ≤ 19
-      stack_room h = shallow d s h x.deep x.small
+      module _ (q : Queue) (e : o ≡ Some q) where
+        pub stack_fits : Fits ws (length qs) q
+        stack_fits = subst (Above ws qs) e x.above
 
-      module _ (some : 0 < s) (h : Head) (c : List ℤ) (hd : Headed ws index band far i st h c) (lc : length c ≡ length st.1) (l r : ℕ)
-          (el : l ≡ cond h.left (s / 2) 0) (er : r ≡ cond h.right (s - 1 - s / 2) 0) where
-        hl : l ≤ s / 2
-        hl = half_left h.left (s / 2) l el
+        pub stack_room : length qs < 20
+        stack_room = omega (arith, shallow ws (length qs) q stack_fits)
 
-        hr : r ≤ s - 1 - s / 2
-        hr = half_left h.right (s - 1 - s / 2) r er
+        sized : size_of o ≡ q.size
+        sized = ap size_of e
 
-        -- one queue entered: its left, its right, then what was left before
-        entered : (w : Window) → after index.n index.lower (queue_of ws index band far w s₀ i₀) st₀
-            ≡ after index.n index.lower (queue_of ws index band far w l (i + 2) ++ (queue_of ws index band far w r (i + 2 + 2 * (s / 2)) ++ left w stack d)) (h.tally, c)
-        entered w =
-            x.rest w
-            ∙ after_append index.n index.lower (queue_of ws index band far w s i) (left w stack d) st
-            ∙ ap (after index.n index.lower (left w stack d))
-            (ap (λ (es : List Event). after index.n index.lower es st) (queue_parts ws index band far w s i some)
-            ∙ hd.rest w _ _
-            ∙ ap₂ (λ (a b : List Event). after index.n index.lower (a ++ b) (h.tally, c))
-            (queue_if ws index band far w h.left (s / 2) l (i + 2) el) (queue_if ws index band far w h.right (s - 1 - s / 2) r (i + 2 + 2 * (s / 2)) er))
-            ∙ sym (after_append index.n index.lower (queue_of ws index band far w l (i + 2) ++ queue_of ws index band far w r (i + 2 + 2 * (s / 2))) (left w stack d) (h.tally, c))
-            ∙ ap (λ (es : List Event). after index.n index.lower es (h.tally, c)) (append_assoc (queue_of ws index band far w l (i + 2)) (queue_of ws index band far w r (i + 2 + 2 * (s / 2))) (left w stack d))
+        pub stack_few : t.visits + q.size < 2 ^ 20
+        stack_few = omega (arith, sized, x.visits, x.few)
 
-        -- it read a spoiled word
-        pub stack_stopped : 0 < h.tally.stopped → (w : Window) → Along index.n index.lower (queue_of ws index band far w s₀ i₀) s₀ st₀ (h.tally, c)
-        stack_stopped g w = record {
-          came = sym (entered w ∙ after_stopped index.n index.lower _ (h.tally, c) g);
-          visits = omega (arith, x.visits, hd.visits);
-        }
+        module _ (r : Result Head Spoiled) (new : List ℤ) (hd : Headed ws n band end first q t cells r new) where
+          entered : (w : Window) (s : State) → s ≡ after n first (queue_of ws n band end w q) (Ok t, cells)
+              → after n first (queue_of ws n band end w q₀) (Ok t₀, cells₀) ≡ after n first (pending (queue_of ws n band end w) qs) s
+          entered w s d =
+              x.rest w
+              ∙ (λ k. after n first (todo w (e k) qs) (Ok t, cells))
+              ∙ after_append n first (queue_of ws n band end w q) (pending (queue_of ws n band end w) qs) (Ok t, cells)
+              ∙ ap (after n first (pending (queue_of ws n band end w) qs)) (sym d)
 
-        module _ (on : h.tally.stopped ≡ 0) where
-          -- there is no right one to walk
-          skipped : r ≡ 0 → Stacked height s₀ i₀ st₀ stack d l (i + 2) (h.tally, c)
-          skipped none = record {
-            rest = λ w. entered w ∙ ap (λ (es : List Event). after index.n index.lower (queue_of ws index band far w l (i + 2) ++ (es ++ left w stack d)) (h.tally, c))
-                (ap (λ (k : ℕ). queue_of ws index band far w k (i + 2 + 2 * (s / 2))) none ∙ queue_none ws index band far w (i + 2 + 2 * (s / 2)));
-            inside = omega (arith, x.inside, hl);
-            held = x.held;
-            deep = x.deep;
-            small = omega (arith, hl, x.small);
-            going = on;
-            visits = omega (arith, x.visits, hl, hd.visits);
-            few = x.few;
-            long = lc ∙ x.long;
-            tall = x.tall;
-            room = x.room;
-          }
-
-          pub stack_skip : (stack' : List ℕ) (e : ℕ) → stack' ≡ stack → e ≡ d → r ≡ 0 → Stacked height s₀ i₀ st₀ stack' e l (i + 2) (h.tally, c)
-          stack_skip stack' e es ee none = rw (es, ee) (skipped none)
-
-          pub skip_less : (stack' : List ℕ) (e : ℕ) → stack' ≡ stack → e ≡ d → work stack' e l < work stack d s
-          skip_less stack' e es ee = rw (es, ee) (omega (arith, hl))
-
-          -- there is no left one to walk: the right one is next
-          pub stack_right : l ≡ 0 → Stacked height s₀ i₀ st₀ stack d r (i + 2 + 2 * (s / 2)) (h.tally, c)
-          stack_right none = record {
-            rest = λ w. entered w ∙ ap (λ (es : List Event). after index.n index.lower (es ++ (queue_of ws index band far w r (i + 2 + 2 * (s / 2)) ++ left w stack d)) (h.tally, c))
-                (ap (λ (k : ℕ). queue_of ws index band far w k (i + 2)) none ∙ queue_none ws index band far w (i + 2));
-            inside = omega (arith, x.inside, hr);
-            held = x.held;
-            deep = x.deep;
-            small = omega (arith, hr, x.small);
-            going = on;
-            visits = omega (arith, x.visits, hr, hd.visits);
-            few = x.few;
-            long = lc ∙ x.long;
-            tall = x.tall;
-            room = x.room;
-          }
-
-          pub right_less : work stack d r < work stack d s
-          right_less = omega (arith, hr)
-
-          abbrev a : ℕ
-          a = i + 2 + 2 * (s / 2)
-
-          fits : 0 < r → (j : ℕ) → j < suc d → Held (pushed stack d a r) j
-          fits more =
-              let room : 2 * d + 1 < length stack = omega (arith, x.tall, x.room, stack_room some) in
-              below_suc (Held (pushed stack d a r)) d
-              (λ j g. (omega (arith, (x.held j g).0, place_kept stack d a r j g, size_kept stack d a r j g), omega (arith, (x.held j g).1, size_kept stack d a r j g), omega (arith, (x.held j g).2, size_kept stack d a r j g)))
-              (omega (arith, x.inside, hr, place_top stack d a r room, size_top stack d a r room), omega (arith, hr, x.small, size_top stack d a r room), omega (arith, more, size_top stack d a r room))
-
-          -- its right one goes on the stack
-          stacking : 0 < r → Stacked height s₀ i₀ st₀ (pushed stack d a r) (suc d) l (i + 2) (h.tally, c)
-          stacking more =
-              let d19 : d ≤ 19 = stack_room some in
-              let room : 2 * d + 1 < length stack = omega (arith, x.tall, x.room) in
-              let ts = size_top stack d a r room in
-              let tp = place_top stack d a r room in
-              let w : 20 - d ≡ suc (20 - suc d) = omega arith in
-              let pw : 2 ^ (20 - d) ≡ 2 ^ (20 - suc d) * 2 = ap (λ (b : ℕ). 2 ^ b) w ∙ pow-suc 2 (20 - suc d) in
+          -- it read a spoiled word
+          pub stack_cut : (y : Spoiled) → r ≡ Err y → (r' : Result Tally Spoiled) → IsErr r' → (w : Window) → Along n first (queue_of ws n band end w q₀) q₀.size t₀ cells₀ r' new
+          stack_cut y d (Ok u) i w = absurd (cc)
+          stack_cut y d (Err z) i w =
+              let g = subst (λ (r : Result Head Spoiled). Headed ws n band end first q t cells r new) d hd in
               record {
-                rest = λ w. entered w
-                    ∙ ap (λ (es : List Event). after index.n index.lower (queue_of ws index band far w l (i + 2) ++ es) (h.tally, c))
-                    ((λ k. queue_of ws index band far w (sym ts k) (sym tp k)
-                    ++ pending_same (λ j. queue_of ws index band far w (size_at stack j) (place_of stack j)) (λ j. queue_of ws index band far w (size_at (pushed stack d a r) j) (place_of (pushed stack d a r) j)) d
-                    (λ j g q. queue_of ws index band far w (sym (size_kept stack d a r j g) q) (sym (place_kept stack d a r j g) q)) k)
-                    ∙ sym (pending_more (λ j. queue_of ws index band far w (size_at (pushed stack d a r) j) (place_of (pushed stack d a r) j)) d));
-                inside = omega (arith, x.inside, hl);
-                held = fits more;
-                deep = omega arith;
-                small = omega (arith, hl, x.small, pw);
-                going = on;
-                visits = omega (arith, x.visits, hl, hr, ts, total_more (size_at (pushed stack d a r)) d, total_same (size_at (pushed stack d a r)) (size_at stack) d (λ j g. size_kept stack d a r j g), hd.visits);
-                few = x.few;
-                long = lc ∙ x.long;
-                tall = length-set (set stack (2 * d) a) (2 * d + 1) r ∙ length-set stack (2 * d) a ∙ x.tall;
-                room = x.room;
+                came = sym (entered w (Err y, new) (sym (g.rest w)) ∙ after_stopped n first _ y new);
+                visits = tt;
               }
 
-          stacking_less : work (pushed stack d a r) (suc d) l < work stack d s
-          stacking_less =
-              let room : 2 * d + 1 < length stack = omega (arith, x.tall, x.room, stack_room some) in
-              omega (arith, total_more (size_at (pushed stack d a r)) d, size_top stack d a r room, total_same (size_at (pushed stack d a r)) (size_at stack) d (λ j g. size_kept stack d a r j g), hl, hr)
+          -- the walk goes on
+          module _ (h : Head) (d : r ≡ Ok h) (o' : Option Queue) (qs' : List Queue) (went : Went qs h.left h.right o' qs') where
+            ok : Headed ws n band end first q t cells (Ok h) new
+            ok = subst (λ (r : Result Head Spoiled). Headed ws n band end first q t cells r new) d hd
 
-          module _ (stack' : List ℕ) (e : ℕ) (es : stack' ≡ pushed stack d a r) (ee : e ≡ d + 1) where
-            one_more : e ≡ suc d
-            one_more = omega arith
+            pub stack_step : Stacked qs' o' h.tally new
+            stack_step =
+                let above = went_above ws q qs qs' h.left h.right o' stack_fits x.held ok.below.left ok.below.right went in
+                record {
+                  rest = λ w. let f = queue_of ws n band end w in
+                      entered w _ (sym (ok.rest w))
+                      ∙ sym (after_append n first (of_some f h.left ++ of_some f h.right) (pending f qs) (Ok h.tally, new))
+                      ∙ ap (λ (y : List Event). after n first y (Ok h.tally, new)) (went_rest f qs qs' h.left h.right o' went);
+                  held = above.0;
+                  above = above.1;
+                  visits = omega (arith, x.visits, sized, ok.below.visits, ok.below.sizes, went_size qs h.left h.right o' qs' went);
+                  few = x.few;
+                }
 
-            pub stack_push : 0 < r → Stacked height s₀ i₀ st₀ stack' e l (i + 2) (h.tally, c)
-            stack_push more = rw (es, one_more) (stacking more)
-
-            pub push_less : work stack' e l < work stack d s
-            push_less = rw (es, one_more) stacking_less
-
--- ---- the loop's measure
-pub pop_less : (stack : List ℕ) (d s c : ℕ) → d ≡ suc c → work stack c (size_at stack c) < work stack d s
-pop_less stack d s c e = omega (arith, ap (total (size_at stack)) e, total_more (size_at stack) c)
+            pub stack_less : size_of o' + total qs' < size_of o + total qs
+            stack_less = omega (arith, sized, ok.below.sizes, went_size qs h.left h.right o' qs' went)

@@ -2,181 +2,176 @@
 // A queue is a loop, with the right queues that are still to be walked on a small lent stack.
 #![tactic(auto)]
 
-ghost use Rattle.std.specs.Prelude.{◌≡◌, cond, ◌+◌, ◌*◌, ◌^◌, ◌<◌, ◌≤◌, length};
+ghost use Rattle.std.specs.Prelude.{◌≡◌, ◌+◌, ◌-◌, ◌*◌, ◌/◌, ◌^◌, ◌<◌, ◌≤◌, length};
 ghost use Rattle.paper.specs.Walk.{record_at, condition, in_band};
 ghost use Rattle.paper.specs.declared.Window.{Window};
+ghost use Rattle.axes.specs.Axes.{axis_of, end_of};
 ghost use Rattle.tally.specs.State.{Along};
-ghost use Rattle.tally.specs.Reads.{Ready};
-ghost use Rattle.queues.specs.Queues.{axis_of, end_of, queue_of, Headed};
-ghost use Rattle.queues.specs.Stacks.{pushed};
+ghost use Rattle.queues.specs.Queues.{queue_of, left_of, right_of, due_of, Headed};
+ghost use Rattle.queues.specs.Stacks.{Went};
 
-use tally::{Index, Tally, coordinate_at, keeps, list, reaches, see, stop, whole_at};
-use whole::cell;
+use arrayvec::ArrayVec;
+use axes::{Axis, End};
+use tally::{Index, Spoiled, Tally};
 
-// What is looked for: axis 0 the horizontals, 1 the verticals; the edge that near or far is held against; the band of levels.
+/// What is looked for along an axis: the edge that near or far is held against, and the band of levels.
 #[derive(Clone, Copy)]
 pub struct Band {
-    pub axis: usize,
+    pub axis: Axis,
     pub edge: i64,
     pub low: i64,
     pub high: i64,
 }
 
-// The coordinate that a queue is by: near in a low queue, far in a high one.
-fn key_of(axis: usize, high: bool) -> usize
-    requires { axis < 2 }
-    ensures value { result ≡ cond high (axis + 2) axis }
-    ensures within { result < 4 }
-{
-    if high { axis + 2 } else { axis }
+impl Band {
+    // Whether a queue's condition holds of a position: near < edge in a low queue, far ≥ edge in a high one.
+    fn holds(self, index: Index, end: End, p: usize) -> bool
+        requires { p < index.n }
+        ensures { result ≡ condition (axis_of self.axis) self.edge (end_of end) (record_at index.entry.words.now p) }
+    {
+        // One test of the key, where a branch on each end would be foreseen less well.
+        let reached = self.edge <= index.coordinate(p, self.axis.end(end));
+        match end {
+            End::Low => !reached,
+            End::High => reached,
+        }
+    }
+
+    // Whether a position's level is in the band.
+    fn contains(self, index: Index, p: usize) -> bool
+        requires { p < index.n }
+        ensures { result ≡ in_band (axis_of self.axis) self.low self.high (record_at index.entry.words.now p) }
+    {
+        let level = index.coordinate(p, self.axis.level());
+        (self.low..=self.high).contains(&level)
+    }
 }
 
-// Whether a queue's condition holds of a position: near < edge in a low queue, far ≥ edge in a high one.
-// Its key reaches the edge or not, as the queue is high or low: one test, where a branch on each would be foreseen less well.
-fn holds(words: &[i32], band: Band, high: bool, p: usize) -> bool
-    requires axis_bound { band.axis < 2 }
-    requires p_bound { (p < 65536) × (8 + 4 * p ≤ length words.now) }
-    ensures { result ≡ condition (axis_of band.axis) band.edge (end_of high) (record_at words.now p) }
-{
-    let reached = reaches(words, coordinate_at(p, key_of(band.axis, high)), band.edge);
-    reached == high
+/// A queue that is to be walked: the word where it begins, and over how many it is.
+#[derive(Clone, Copy, Debug, Default, PartialEq, Eq)]
+pub struct Queue {
+    pub at: usize,
+    pub size: usize,
 }
 
-// Whether a position's level is in the band.
-fn in_band(words: &[i32], band: Band, p: usize) -> bool
-    requires axis_bound { band.axis < 2 }
-    requires p_bound { (p < 65536) × (8 + 4 * p ≤ length words.now) }
-    ensures { result ≡ in_band (axis_of band.axis) band.low band.high (record_at words.now p) }
-{
-    let level = coordinate_at(p, 1 - band.axis);
-    let above = reaches(words, level, band.low);
-    above & keeps(words, level, band.high)
-}
+/// Queues that are to be walked, the next one last. They halve: there are never more than a size has binary digits.
+pub type Pending = ArrayVec<Queue, 20>;
 
-// What a queue does itself, and whether the walk goes on to its left and its right.
+/// What a queue does itself, and the queues that the walk goes on to.
 #[derive(Clone, Copy)]
 pub struct Head {
     pub tally: Tally,
-    pub left: bool,
-    pub right: bool,
+    pub left: Option<Queue>,
+    pub right: Option<Queue>,
 }
 
-fn enter(
-    words: &[i32],
-    numbers: &mut [i32],
-    index: Index,
-    band: Band,
-    high: bool,
-    tally: Tally,
-    at: usize,
-) -> Head
-    requires ready { Ready index words.now }
-    requires axis_bound { band.axis < 2 }
-    requires at_in_bounds { at + 1 < length words.now }
-    requires stopped_value { (tally.stopped ≡ 0) × (tally.visits + 1 < 2 ^ 64) }
-    ensures { Headed words.now index band high at (tally, numbers.old) result numbers.new }
-{
-    let n = index.n;
-    let seen = see(tally);
-    let p = whole_at(words, at, n);
-    if n <= p {
-        return Head {
-            tally: stop(seen),
-            left: false,
-            right: false,
-        };
-    }
-    if !holds(words, band, high, p) {
-        return Head {
-            tally: seen,
-            left: false,
-            right: false,
-        };
-    }
-    let split = cell(words, at + 1);
-    let left = band.low <= split;
-    let right = split <= band.high;
-    if in_band(words, band, p) {
-        return Head {
-            tally: list(numbers, index, seen, p),
-            left: left,
-            right: right,
-        };
-    }
-    Head {
-        tally: seen,
-        left: left,
-        right: right,
-    }
-}
-
-fn size_if(go: bool, size: usize) -> usize
-    ensures { result ≡ cond go size 0 }
-{
-    if go { size } else { 0 }
-}
-
-// A queue is put on the stack.
-fn push(stack: &mut [usize], depth: usize, at: usize, size: usize) -> usize
-    requires { (depth ≤ 19) × (40 ≤ length stack.old) }
-    ensures { (result ≡ depth + 1) × (stack.new ≡ pushed stack.old depth at size) }
-{
-    stack[2 * depth] = at;
-    stack[2 * depth + 1] = size;
-    depth + 1
-}
-
-// A queue over some at a word. The walk of the current one comes first, then that of each on the stack.
-pub fn queue(
-    words: &[i32],
-    numbers: &mut [i32],
-    stack: &mut [usize],
-    index: Index,
-    band: Band,
-    high: bool,
-    tally0: Tally,
-    at0: usize,
-    size0: usize,
-) -> Tally
-    requires ready { Ready index words.now }
-    requires axis_bound { band.axis < 2 }
-    requires size0_in_bounds { at0 + 2 * size0 ≤ length words.now }
-    requires size0_bound { (tally0.visits + size0 < 2 ^ 20) × (40 ≤ length stack.old) }
-    ensures { (w : Window) → Along index.n index.lower (queue_of words.now index band high w size0 at0) size0 (tally0, numbers.old) (result, numbers.new) }
-{
-    if 0 < tally0.stopped {
-        return tally0;
-    }
-    let mut depth: usize = 0;
-    let mut tally = tally0;
-    let mut at = at0;
-    let mut size = size0;
-    while 0 < size {
-        let head = enter(words, numbers, index, band, high, tally, at);
-        let next = head.tally;
-        tally = next;
-        if 0 < tally.stopped {
-            return tally;
+impl Queue {
+    // It takes one itself; of the others half are to its left.
+    fn left(self) -> Queue
+        requires { self.at + 2 < 2 ^ 64 }
+        ensures { result ≡ left_of self }
+    {
+        Queue {
+            at: self.at + 2,
+            size: self.size / 2,
         }
-        let half = size / 2;
-        let left = size_if(head.left, half);
-        let right = size_if(head.right, size - 1 - half);
-        if 0 < left {
-            if 0 < right {
-                depth = push(stack, depth, at + 2 + 2 * half, right);
-            }
-            at = at + 2;
-            size = left;
-        } else if 0 < right {
-            at = at + 2 + 2 * half;
-            size = right;
-        } else if 0 < depth {
-            depth = depth - 1;
-            at = stack[2 * depth];
-            size = stack[2 * depth + 1];
+    }
+
+    // The rest is to its right.
+    fn right(self) -> Queue
+        requires { (0 < self.size) × (self.at + 2 * self.size < 2 ^ 64) }
+        ensures { result ≡ right_of self }
+    {
+        let half = self.size / 2;
+        Queue {
+            at: self.at + 2 + 2 * half,
+            size: self.size - 1 - half,
+        }
+    }
+
+    // The queue, where the walk goes on to it and it is over some.
+    fn if_due(self, due: bool) -> Option<Queue>
+        ensures { result ≡ due_of due self }
+    {
+        if due & (0 < self.size) {
+            Some(self)
         } else {
-            return tally;
+            None
         }
     }
-    tally
+
+    fn enter(
+        self,
+        index: Index,
+        numbers: &mut [i32],
+        band: Band,
+        end: End,
+        tally: Tally,
+    ) -> Result<Head, Spoiled>
+        requires inside { (0 < self.size) × (self.at + 2 * self.size ≤ length index.words.now) }
+        requires few { tally.visits + self.size < 2 ^ 20 }
+        ensures { Headed index.entry.words.now index.entry.n band end index.entry.lower self tally numbers.old result numbers.new }
+    {
+        let seen = tally.seen();
+        let p = index.position_at(self.at)?;
+        if !band.holds(index, end, p) {
+            return Ok(Head {
+                tally: seen,
+                left: None,
+                right: None,
+            });
+        }
+        let split = index.word_at(self.at + 1);
+        let left = band.low <= split;
+        let right = split <= band.high;
+        let listed = if band.contains(index, p) {
+            seen.list(numbers, index, p)?
+        } else {
+            seen
+        };
+        Ok(Head {
+            tally: listed,
+            left: self.left().if_due(left),
+            right: self.right().if_due(right),
+        })
+    }
+
+    /// The walk of a queue: of itself, its left and its right, by a loop over those that are still to be walked, for which a stack is lent.
+    pub fn walk(
+        self,
+        index: Index,
+        numbers: &mut [i32],
+        pending: &mut Pending,
+        band: Band,
+        end: End,
+        mut tally: Tally,
+    ) -> Result<Tally, Spoiled>
+        requires inside { self.at + 2 * self.size ≤ length index.words.now }
+        requires few { tally.visits + self.size < 2 ^ 20 }
+        ensures { (w : Window) → Along index.entry.n index.entry.lower (queue_of index.entry.words.now index.entry.n band end w self) self.size tally numbers.old result numbers.new }
+    {
+        pending.clear();
+        let mut next = self.if_due(true);
+        while let Some(queue) = next {
+            let head = queue.enter(index, numbers, band, end, tally)?;
+            tally = head.tally;
+            next = go_on(pending, head.left, head.right);
+        }
+        Ok(tally)
+    }
+}
+
+// The queue that the walk goes on to: a left one, then its right one, then the last of those that wait.
+fn go_on(pending: &mut Pending, left: Option<Queue>, right: Option<Queue>) -> Option<Queue>
+    requires { length pending.old.items < 20 }
+    ensures { Went pending.old.items left right result pending.new.items }
+{
+    match (left, right) {
+        (Some(left), Some(right)) => {
+            pending.push(right);
+            Some(left)
+        }
+        (Some(only), None) | (None, Some(only)) => Some(only),
+        (None, None) => pending.pop(),
+    }
 }

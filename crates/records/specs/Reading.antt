@@ -1,12 +1,11 @@
 -- Laws of reading: the record of a position, and which of its ends' coordinates a word of it is.
 -- Use: `record_at_is` for a position of the table, `record_none` beyond it; `word_is` for the two cells that are enough. Assumes nothing.
-use Rattle.std.specs.Prelude.{◌≡◌, refl, Bool, true, false, not, ◌&&◌, ◌||◌, cond, List, [], ◌∷◌, map, ◌⊎◌, ℕ, zero, suc, ◌+◌, ◌≤◌, ◌<◌, T, ℤ, pos, negsuc, nat_abs, length, get_or}
-use Rattle.std.proofs.Common.{sym, ap, ap₂, ◌∙◌, inl, inr, arith, SFits, ltb-true}
+use Rattle.std.specs.Prelude.{◌≡◌, refl, Bool, true, false, not, ◌&&◌, ◌||◌, cond, List, [], ◌∷◌, map, ◌⊎◌, ℕ, ◌+◌, ◌≤◌, ◌<◌, ℤ, pos, length, get_or}
+use Rattle.std.proofs.Common.{sym, ap, ap₂, ◌∙◌, inl, inr, arith}
 use Rattle.std.proofs.lemmas.Simd.{map-map}
 use Rattle.std.proofs.lemmas.List.{length-map}
 use Rattle.std.proofs.Math.ListN.{get_or-eq_default}
-use Rattle.std.specs.Int.Signed.{le_z, lt_z, non_neg}
-use Rattle.std.specs.Int.{w32}
+use Rattle.std.specs.Int.Signed.{le_z, lt_z}
 use Rattle.lists.specs.Plain.{to_nat, positions, same}
 use Rattle.lists.specs.Tests.{by_test, clash, is_true, holds}
 use Rattle.lists.specs.Orders.{lt_z_not, same_equal, same_self, le_self, ℤ_order}
@@ -18,9 +17,12 @@ use Rattle.paper.specs.Answers.{answer_at, positions_of, slanted}
 use Rattle.paper.specs.Words.{turned, low_first}
 use Rattle.paper.specs.declared.Descriptor.{Descriptor}
 use Rattle.paper.specs.declared.Segment.{Segment}
+use Rattle.axes.specs.Axes.{coordinate_of}
+use Rattle.axes.specs.declared.Word.{Word}
+use Rattle.axes.specs.declared.Word.TheVariants.{X1, Y1, X2, Y2}
 use Rattle.table.specs.Rows.{held_size}
 use Rattle.table.specs.Segments.{chosen_are}
-use Rattle.records.specs.Records.{records_of, field_of, word_at, Readable}
+use Rattle.records.specs.Records.{records_of, word_at, Readable}
 
 -- ---- the record of a position
 
@@ -35,53 +37,51 @@ records_length d table = ap length (records_are d table) ∙ length-map (positio
 pub record_at_is : (d : Descriptor) (table : List ℤ) (i : ℕ) → i < size_of d → at (records_of d table) i ≡ low_first (segment_of d table i)
 record_at_is d table i h = ap (λ l. at l i) (records_are d table) ∙ at_map (λ k. low_first (segment_of d table k)) _ (size_of d) i h
 
-no_word : (which : ℕ) → pos 0 ≡ field_of which (record { x1 = pos 0; y1 = pos 0; x2 = pos 0; y2 = pos 0 })
-no_word zero = refl
-no_word (suc zero) = refl
-no_word (suc (suc zero)) = refl
-no_word (suc (suc (suc n))) = refl
+no_word : (word : Word) → pos 0 ≡ coordinate_of word (record { x1 = pos 0; y1 = pos 0; x2 = pos 0; y2 = pos 0 })
+no_word X1 = refl
+no_word Y1 = refl
+no_word X2 = refl
+no_word Y2 = refl
 
 -- beyond the table every word is 0
-pub record_none : (table : List ℤ) (d : Descriptor) (z : ℤ) (which : ℕ) → size_of d ≤ to_nat z → pos 0 ≡ word_at table d z which
+pub record_none : (table : List ℤ) (d : Descriptor) (z : ℤ) (word : Word) → size_of d ≤ to_nat z → pos 0 ≡ word_at table d z word
 unfolding word_at
-record_none table d z which h =
-    no_word which ∙ ap (field_of which) (sym (get_or-eq_default (records_of d table) _ (omega (arith, records_length d table))))
+record_none table d z word h =
+    no_word word ∙ ap (coordinate_of word) (sym (get_or-eq_default (records_of d table) _ (omega (arith, records_length d table))))
 
 -- a word that stands for position i
-pub word_of : (table : List ℤ) (d : Descriptor) (i : ℕ) (z : ℤ) (which : ℕ) → i ≡ to_nat z → word_at table d (pos i) which ≡ word_at table d z which
+pub word_of : (table : List ℤ) (d : Descriptor) (i : ℕ) (z : ℤ) (word : Word) → i ≡ to_nat z → word_at table d (pos i) word ≡ word_at table d z word
 unfolding word_at
-word_of table d i z which e = ap (λ k. field_of which (at (records_of d table) k)) e
+word_of table d i z word e = ap (λ k. coordinate_of word (at (records_of d table) k)) e
 
 -- ---- the low end of a straight segment has both smaller coordinates
 
 -- 0 for x, 1 for y
-abbrev pub column_of : ℕ → ℕ
-column_of zero = 0
-column_of (suc zero) = 1
-column_of (suc (suc zero)) = 0
-column_of (suc (suc (suc n))) = 1
+abbrev pub column_of : Word → ℕ
+column_of X1 = 0
+column_of Y1 = 1
+column_of X2 = 0
+column_of Y2 = 1
 
-pub column_other : (which : ℕ) → (which ≡ 0 → ⊥) → (which ≡ 2 → ⊥) → 1 ≡ column_of which
-column_other zero f g = absurd (f refl)
-column_other (suc zero) f g = refl
-column_other (suc (suc zero)) f g = absurd (g refl)
-column_other (suc (suc (suc n))) f g = refl
+-- of the two ends' coordinates the smaller for the words of the low end, otherwise the greater
+abbrev pub end_of : Word → ℤ → ℤ → ℤ
+end_of X1 a b = cond (lt_z b a) b a
+end_of Y1 a b = cond (lt_z b a) b a
+end_of X2 a b = cond (lt_z b a) a b
+end_of Y2 a b = cond (lt_z b a) a b
 
--- of the two ends' coordinates the smaller for the words 0 and 1, otherwise the greater
-abbrev pub end_of : ℕ → ℤ → ℤ → ℤ
-end_of zero a b = cond (lt_z b a) b a
-end_of (suc zero) a b = cond (lt_z b a) b a
-end_of (suc (suc n)) a b = cond (lt_z b a) a b
+-- the coordinates of the two ends that a word is one of
+abbrev column : Word → Segment → ℤ
+column X1 s = s.x1
+column Y1 s = s.y1
+column X2 s = s.x1
+column Y2 s = s.y1
 
-pub end_low : (which : ℕ) (a b : ℤ) → which < 2 → cond (lt_z b a) b a ≡ end_of which a b
-end_low zero a b h = refl
-end_low (suc zero) a b h = refl
-end_low (suc (suc n)) a b h = absurd (omega arith)
-
-pub end_high : (which : ℕ) (a b : ℤ) → 2 ≤ which → cond (lt_z b a) a b ≡ end_of which a b
-end_high zero a b h = absurd (omega arith)
-end_high (suc zero) a b h = absurd (omega arith)
-end_high (suc (suc n)) a b h = refl
+abbrev far_column : Word → Segment → ℤ
+far_column X1 s = s.x2
+far_column Y1 s = s.y2
+far_column X2 s = s.x2
+far_column Y2 s = s.y2
 
 abbrev turns : Segment → Bool
 turns s = lt_z s.x2 s.x1 || (same s.x2 s.x1 && lt_z s.y2 s.y1)
@@ -122,51 +122,32 @@ module _ (s : Segment) (h : slanted s ≡ false) where
   pick f true = refl
   pick f false = refl
 
+  turned_round : {P : Type 0} {a b : ℤ} → P ⊎ (a ≡ b) → P ⊎ (b ≡ a)
+  turned_round (inl p) = inl p
+  turned_round (inr e) = inr (sym e)
+
   -- a word of the record of a straight segment, from one coordinate of each of its ends
-  pub straight_word : (which : ℕ) → end_of which (field_of (column_of which) s) (field_of (column_of which + 2) s) ≡ field_of which (low_first s)
-  straight_word zero = sym (pick (λ r. r.x1) (turns s) ∙ alike s.x2 s.x1 turn_x)
-  straight_word (suc zero) = sym (pick (λ r. r.y1) (turns s) ∙ alike s.y2 s.y1 turn_y)
-  straight_word (suc (suc zero)) = sym (pick (λ r. r.x2) (turns s) ∙ alike s.x1 s.x2 (turned_round turn_x))
-    where
-      turned_round : {P : Type 0} {a b : ℤ} → P ⊎ (a ≡ b) → P ⊎ (b ≡ a)
-      turned_round (inl p) = inl p
-      turned_round (inr e) = inr (sym e)
-  straight_word (suc (suc (suc n))) = sym (pick (λ r. r.y2) (turns s) ∙ alike s.y1 s.y2 (turned_round turn_y))
-    where
-      turned_round : {P : Type 0} {a b : ℤ} → P ⊎ (a ≡ b) → P ⊎ (b ≡ a)
-      turned_round (inl p) = inl p
-      turned_round (inr e) = inr (sym e)
+  pub straight_word : (word : Word) → end_of word (column word s) (far_column word s) ≡ coordinate_of word (low_first s)
+  straight_word X1 = sym (pick (λ r. r.x1) (turns s) ∙ alike s.x2 s.x1 turn_x)
+  straight_word Y1 = sym (pick (λ r. r.y1) (turns s) ∙ alike s.y2 s.y1 turn_y)
+  straight_word X2 = sym (pick (λ r. r.x2) (turns s) ∙ alike s.x1 s.x2 (turned_round turn_x))
+  straight_word Y2 = sym (pick (λ r. r.y2) (turns s) ∙ alike s.y1 s.y2 (turned_round turn_y))
 
--- a coordinate as it stands in the table
-pub coordinate_is : (table : List ℤ) (d : Descriptor) (i j : ℕ) → j < 4 → get_or table (to_nat (cell_of d i j)) (pos 0) ≡ field_of j (segment_of d table i)
-coordinate_is table d i zero h = refl
-coordinate_is table d i (suc zero) h = refl
-coordinate_is table d i (suc (suc zero)) h = refl
-coordinate_is table d i (suc (suc (suc zero))) h = refl
-coordinate_is table d i (suc (suc (suc (suc j)))) h = absurd (omega arith)
-
-pub word_is : (table : List ℤ) (d : Descriptor) (i which : ℕ) → i < size_of d → slanted (segment_of d table i) ≡ false
-    → end_of which (get_or table (to_nat (cell_of d i (column_of which))) (pos 0)) (get_or table (to_nat (cell_of d i (column_of which + 2))) (pos 0)) ≡ word_at table d (pos i) which
+-- the cells of a record's word: the coordinates of both ends as they stand in the table
+pub word_is : (table : List ℤ) (d : Descriptor) (i : ℕ) (word : Word) → i < size_of d → slanted (segment_of d table i) ≡ false
+    → end_of word (get_or table (to_nat (cell_of d i (column_of word))) (pos 0)) (get_or table (to_nat (cell_of d i (column_of word + 2))) (pos 0)) ≡ word_at table d (pos i) word
 unfolding word_at
-word_is table d i which h k =
-    ap₂ (end_of which) (coordinate_is table d i (column_of which) (omega (arith, two which))) (coordinate_is table d i (column_of which + 2) (omega (arith, two which)))
-    ∙ straight_word (segment_of d table i) k which
-    ∙ ap (field_of which) (sym (record_at_is d table i h))
+word_is table d i word h k =
+    cells word
+    ∙ straight_word (segment_of d table i) k word
+    ∙ ap (coordinate_of word) (sym (record_at_is d table i h))
   where
-    two : (which : ℕ) → column_of which < 2
-    two zero = omega arith
-    two (suc zero) = omega arith
-    two (suc (suc zero)) = omega arith
-    two (suc (suc (suc n))) = omega arith
-
--- ---- the position that a word stands for, against the table's size
-pub place_low : (z : ℤ) → lt_z z (pos 0) ≡ true → 0 ≡ to_nat z
-place_low (pos n) h = let l : n < 0 = ltb-true n 0 h in absurd (omega arith)
-place_low (negsuc n) h = refl
-
-pub place_high : (z : ℤ) → SFits w32 z → lt_z z (pos 0) ≡ false → (T (non_neg z)) × (nat_abs z ≡ to_nat z) × (nat_abs z < 2147483648)
-place_high (pos n) f h = (tt, refl, f.sfits)
-place_high (negsuc n) f h = clash h
+    cells : (word : Word) → end_of word (get_or table (to_nat (cell_of d i (column_of word))) (pos 0)) (get_or table (to_nat (cell_of d i (column_of word + 2))) (pos 0))
+        ≡ end_of word (column word (segment_of d table i)) (far_column word (segment_of d table i))
+    cells X1 = refl
+    cells Y1 = refl
+    cells X2 = refl
+    cells Y2 = refl
 
 -- ---- a table that may be read
 no_answer : (number : ℕ) (ps : List ℕ) → (answer_at number ps).given ≡ false → ps ≡ []

@@ -1,111 +1,116 @@
-// What the public calls share: the tests of a table that stand first in every order over one, and the replies.
+// What the public calls share: why a call is refused, the tests of a table that stand first in every order over one, and the replies.
 #![tactic(auto)]
 
-ghost use Rattle.std.specs.Prelude.{◌≡◌, ◌<◌, ◌≤◌, cond, eqb, pos, length};
-ghost use Rattle.paper.specs.Descriptor.{size_of, segments_of};
-ghost use Rattle.paper.specs.Answers.{judged, refused, done as Done};
-ghost use Rattle.refusals.specs.Orders.{carries_place, carries_count, refusal_at, first_given, table_order, bad_segment};
-ghost use Rattle.table.specs.Cells.{Held, found_at};
+ghost use Rattle.std.specs.Prelude.{◌≡◌, ◌<◌, pos, IfOk, [], ◌∷◌};
+ghost use Rattle.paper.specs.Descriptor.{segments_of};
+ghost use Rattle.paper.specs.Answers.{bad_extent, bad_strides, bad_cells, bad_coordinate, bad_window, refused, done as Done};
+ghost use Rattle.refusals.specs.Orders.{answer_of, Carried, Decided, table_order};
 
-use paper::{Descriptor, Reply};
+use meeting::Frame;
+use paper::{Descriptor, Reply, Window};
+use table::{Place, Table};
 
-// The first of the answers 1, 2, 3, 4, 12 that is given, or 0.
-pub fn of_table(table: &[i32], descriptor: Descriptor) -> usize
-    ensures { (result ≡ first_given (table_order table.now descriptor)) × (result ≤ 12) }
-{
-    if table::bad_kind(descriptor) {
-        return 1;
-    }
-    if table::bad_lower(descriptor) {
-        return 2;
-    }
-    if table::bad_extent(descriptor.extent) {
-        return 3;
-    }
-    if table::bad_strides(descriptor) {
-        return 4;
-    }
-    if table::bad_cells(whole::count(table.len()), descriptor) {
-        return 12;
-    }
-    0
+/// Why a call is refused, with what its answer returns. README says what a caller does about each.
+#[derive(Clone, Copy, Debug, PartialEq, Eq)]
+pub enum Refusal {
+    /// 1: kind is not 1 to 3.
+    Kind,
+    /// 2: a lower bound beyond its limits, or kind 3 with one that is not 0.
+    Lower,
+    /// 3: n beyond its limits.
+    Extent,
+    /// 4: a stride beyond its limits.
+    Strides,
+    /// 5: a coordinate beyond its limits, at this position first.
+    Far(usize),
+    /// 6: a segment neither horizontal nor vertical, at this position first.
+    Slanted(usize),
+    /// 7: a buffer too short, and how many numbers are due; 0 where a caller knows beforehand how much is asked.
+    Room(usize),
+    /// 8: a window that is none, and which of many is the first such; 0 where there is one.
+    Window(usize),
+    /// 9: words that are no index.
+    Index,
+    /// 10: the walk read a spoiled word, and in which of many windows first; 0 where there is one.
+    Spoiled(usize),
+    /// 11, C only: no such position or coordinate.
+    Nowhere,
+    /// 12: an addressed cell outside the table, here first.
+    Cells(Place),
+    /// 13: a text of another form, and the byte that shows it.
+    Text(usize),
+    /// 14: a slice that is not of whole windows, or of too many of them.
+    Slice,
 }
 
-// The reply to a table that is refused by one of these. The cell that 12 speaks of is sought only here.
-pub fn table_refusal(number: usize, table: &[i32], descriptor: Descriptor) -> Reply
-    requires { (number ≡ first_given (table_order table.now descriptor)) × (0 < number) × (number ≤ 12) }
-    ensures { result ≡ judged (table_order table.now descriptor) refused (Done 0 0) }
-{
-    if number == 12 {
-        let first = table::first_outside(whole::count(table.len()), descriptor);
-        return refusal(12, first.coordinate, first.position);
+impl Refusal {
+    /// The number of its answer.
+    pub fn number(self) -> i64
+        ensures { result ≡ pos (answer_of self).number }
+    {
+        match self {
+            Refusal::Kind => 1,
+            Refusal::Lower => 2,
+            Refusal::Extent => 3,
+            Refusal::Strides => 4,
+            Refusal::Far(_) => 5,
+            Refusal::Slanted(_) => 6,
+            Refusal::Room(_) => 7,
+            Refusal::Window(_) => 8,
+            Refusal::Index => 9,
+            Refusal::Spoiled(_) => 10,
+            Refusal::Nowhere => 11,
+            Refusal::Cells(_) => 12,
+            Refusal::Text(_) => 13,
+            Refusal::Slice => 14,
+        }
     }
-    refusal(number, 0, 0)
-}
 
-// The first of n positions whose segment is refused by answer 5, or else by answer 6, or n.
-pub fn first_bad(number: usize, table: &[i32], descriptor: Descriptor, n: usize) -> usize
-    requires { (n ≡ size_of descriptor) × Held (pos (length table.now)) descriptor }
-    ensures { bad_segment number (segments_of descriptor table.now) ≡ found_at (cond (eqb number 5) 5 6) n result }
-{
-    if number == 5 {
-        return table::first_far(table, descriptor, n);
+    /// What its answer returns as count, 0 where it returns none.
+    pub fn count(self) -> usize
+        ensures { result ≡ (answer_of self).count }
+    {
+        match self {
+            Refusal::Room(due) => due,
+            Refusal::Cells(place) => place.coordinate,
+            _ => 0,
+        }
     }
-    table::first_slanted(table, descriptor, n)
-}
 
-// Which answers carry a place.
-fn carries_place(number: usize) -> bool
-    ensures { result ≡ carries_place number }
-{
-    match number {
-        5 => true,
-        6 => true,
-        8 => true,
-        10 => true,
-        12 => true,
-        13 => true,
-        _ => false,
-    }
-}
-
-// Which answers carry a count.
-fn carries_count(number: usize) -> bool
-    ensures { result ≡ carries_count number }
-{
-    match number {
-        7 => true,
-        12 => true,
-        _ => false,
-    }
-}
-
-fn carried(carries: bool, n: usize) -> usize
-    ensures { result ≡ cond carries n 0 }
-{
-    if carries { n } else { 0 }
-}
-
-fn reply(number: usize, count: usize, visits: usize, position: usize) -> Reply
-    requires { (number < 9223372036854775808) × (count < 9223372036854775808) × (visits < 9223372036854775808) × (position < 9223372036854775808) }
-    ensures { result ≡ record { number = pos number; count = pos count; visits = pos visits; position = pos position } }
-{
-    Reply {
-        number: whole::count(number),
-        count: whole::count(count),
-        visits: whole::count(visits),
-        position: whole::count(position),
+    /// What its answer returns as position, 0 where it returns none.
+    pub fn position(self) -> usize
+        ensures { result ≡ (answer_of self).position }
+    {
+        match self {
+            Refusal::Far(position) => position,
+            Refusal::Slanted(position) => position,
+            Refusal::Window(window) => window,
+            Refusal::Spoiled(window) => window,
+            Refusal::Cells(first) => first.position,
+            Refusal::Text(byte) => byte,
+            _ => 0,
+        }
     }
 }
 
-// A refusal's reply: visits 0, and count and position 0 unless the answer carries them.
-pub fn refusal(number: usize, count: usize, place: usize) -> Reply
-    requires { (number < 9223372036854775808) × (count < 9223372036854775808) × (place < 9223372036854775808) }
-    ensures { result ≡ refused (refusal_at number count place) }
+// A number as a reply carries it. No position, count or byte of lent memory is as great as the last case.
+fn carried(n: usize) -> i64
+    ensures { n < 9223372036854775808 → result ≡ pos n }
 {
-    let due = carried(carries_count(number), count);
-    let position = carried(carries_place(number), place);
-    reply(number, due, 0, position)
+    i64::try_from(n).unwrap_or(i64::MAX)
+}
+
+impl From<Refusal> for Reply {
+    ghost from_gives = { λ refusal reply. Carried refusal → reply ≡ refused (answer_of refusal) };
+
+    fn from(refusal: Refusal) -> Reply {
+        Reply {
+            number: refusal.number(),
+            count: carried(refusal.count()),
+            visits: 0,
+            position: carried(refusal.position()),
+        }
+    }
 }
 
 // The reply of a call that is done: position 0.
@@ -113,5 +118,61 @@ pub fn done(count: usize, visits: usize) -> Reply
     requires { (count < 9223372036854775808) × (visits < 9223372036854775808) }
     ensures { result ≡ Done count visits }
 {
-    reply(0, count, visits, 0)
+    Reply {
+        number: 0,
+        count: count as i64,
+        visits: visits as i64,
+        position: 0,
+    }
+}
+
+// ---- tests along an order
+
+// Answers 3, 4, 12: of a table of len cells.
+pub fn of_cells(len: i64, descriptor: Descriptor) -> Result<(), Refusal>
+    ensures { Decided (bad_extent descriptor.extent ∷ bad_strides descriptor ∷ bad_cells len descriptor ∷ []) result }
+{
+    if table::bad_extent(descriptor.extent) {
+        return Err(Refusal::Extent);
+    }
+    if table::bad_strides(descriptor) {
+        return Err(Refusal::Strides);
+    }
+    match table::first_outside(len, descriptor) {
+        Some(place) => Err(Refusal::Cells(place)),
+        None => Ok(()),
+    }
+}
+
+// Answers 1, 2, 3, 4, 12: the cells as a table that may be read.
+pub fn of_table(cells: &[i32], descriptor: Descriptor) -> Result<Table<'_>, Refusal>
+    ensures decided { Decided (table_order cells.now descriptor) result }
+    ensures table { IfOk result (λ table. (table.cells.now ≡ cells.now) × (table.descriptor ≡ descriptor)) }
+{
+    if table::bad_kind(descriptor) {
+        return Err(Refusal::Kind);
+    }
+    if table::bad_lower(descriptor) {
+        return Err(Refusal::Lower);
+    }
+    of_cells(cells.len() as i64, descriptor)?;
+    Ok(Table { cells, descriptor })
+}
+
+// Answer 5.
+pub fn of_coordinates(table: Table<'_>) -> Result<(), Refusal>
+    ensures { Decided (bad_coordinate (segments_of table.entry.descriptor table.entry.cells.now) ∷ []) result }
+{
+    match table.first_far() {
+        Some(position) => Err(Refusal::Far(position)),
+        None => Ok(()),
+    }
+}
+
+// Answer 8 of one window.
+pub fn of_window(window: Window) -> Result<Frame, Refusal>
+    ensures decided { Decided (bad_window window ∷ []) result }
+    ensures frame { IfOk result (λ frame. frame.window ≡ window) }
+{
+    Frame::new(window).ok_or(Refusal::Window(0))
 }

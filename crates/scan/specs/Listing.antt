@@ -10,19 +10,16 @@ use Rattle.lists.specs.Choosing.{filter_zero, filter_next, chosen_length}
 use Rattle.lists.specs.Filling.{filled, filled_none, filled_more}
 use Rattle.paper.specs.Descriptor.{first_number, number_of, size_of, segment_of, segments_of}
 use Rattle.paper.specs.Corners.{weighed}
-use Rattle.paper.specs.Answers.{bad_lower, bad_window, far_off, positions_of}
+use Rattle.paper.specs.Answers.{bad_lower, far_off, positions_of}
 use Rattle.paper.specs.Results.{numbers_of}
 use Rattle.paper.specs.declared.Descriptor.{Descriptor}
 use Rattle.paper.specs.declared.Window.{Window}
-use Rattle.table.specs.Cells.{Held}
 use Rattle.table.specs.Rows.{first_bounds}
 use Rattle.table.specs.Segments.{chosen_are}
 
--- what the listing asks
-pub record Ready (table : List ℤ) (d : Descriptor) (w : Window) : Type 0 where
-  pub held : Held (pos (length table)) d
+-- what the listing asks of a table, beside what a `Table` is
+pub record Ready (table : List ℤ) (d : Descriptor) : Type 0 where
   pub lower : (bad_lower d.kind d.lower).given ≡ false
-  pub window : (bad_window w).given ≡ false
   pub near : (p : ℕ) → p < size_of d → far_off (segment_of d table p) ≡ false
 
 -- the positions of the segments that meet the window, and their numbers
@@ -59,16 +56,16 @@ module _ (table : List ℤ) (d : Descriptor) (w : Window) where
   none_cells cells = sym (ap (λ ps. filled (numbers_of (first_number d.kind d.lower) ps) cells) (filter_zero hit) ∙ filled_none cells)
 
   -- one turn: position i is kept where it is hit
-  pub count_more : (i k : ℕ) {b : Bool} → k ≡ length (chosen i) → b ≡ weighed w (segment_of d table i) → cond b (k + 1) k ≡ length (chosen (i + 1))
-  count_more i k {b} e f = rw (filter_next hit i, ← f, e) (go b)
+  pub count_more : (i k : ℕ) (b : Bool) → k ≡ length (chosen i) → b ≡ weighed w (segment_of d table i) → cond b (k + 1) k ≡ length (chosen (i + 1))
+  count_more i k b e f = rw (filter_next hit i, ← f, e) (go b)
     where
       go : (b : Bool) → cond b (length (chosen i) + 1) (length (chosen i)) ≡ length (chosen i ++ cond b (i ∷ []) [])
       go true = sym (length-append (chosen i) (i ∷ []))
       go false = ap length (sym (append-nil (chosen i)))
 
-  pub cells_more : (i k : ℕ) (cells : List ℤ) {b : Bool} {now : List ℤ} {z : ℤ} → k ≡ length (chosen i) → b ≡ weighed w (segment_of d table i)
+  pub cells_more : (i k : ℕ) (cells : List ℤ) (b : Bool) {now : List ℤ} {z : ℤ} → k ≡ length (chosen i) → b ≡ weighed w (segment_of d table i)
       → now ≡ filled (listed i) cells → z ≡ number_of (first_number d.kind d.lower) i → cond b (set now k z) now ≡ filled (listed (i + 1)) cells
-  cells_more i k cells {b} {now} {z} e f g h = rw (filter_next hit i, ← f, g, h, e ∙ sym (length_listed i)) (go b)
+  cells_more i k cells b {now} {z} e f g h = rw (filter_next hit i, ← f, g, h, e ∙ sym (length_listed i)) (go b)
     where
       go : (b : Bool) → cond b (set (filled (listed i) cells) (length (listed i)) (number_of (first_number d.kind d.lower) i)) (filled (listed i) cells)
           ≡ filled (map (number_of (first_number d.kind d.lower)) (chosen i ++ cond b (i ∷ []) [])) cells

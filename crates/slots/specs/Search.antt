@@ -1,5 +1,5 @@
 -- The search of level 0: what is walked after it, whatever that is, is walked from the slot found.
-use Rattle.std.specs.Prelude.{◌≡◌, Bool, true, false, cond, List, ◌∷◌, eqb, ℤ}
+use Rattle.std.specs.Prelude.{◌≡◌, Bool, true, false, cond, List, ◌∷◌, eqb, ℤ, Ok, Err}
 use Rattle.std.proofs.Math.Path.{refl}
 use Rattle.std.proofs.Common.{sym, ap, ap₂, ◌∙◌, arith, eq-eqb, ne_eqb, eqb-true}
 use Prim.Native.Nat.{ℕ, zero, suc, ◌+◌, ◌-◌, ◌/◌, ◌≤◌, ◌<◌}
@@ -8,8 +8,9 @@ use Rattle.std.specs.Int.Signed.{le_z}
 use Rattle.paper.specs.Words.{levels_at}
 use Rattle.paper.specs.Walk.{atSearch, Event, visit, word, record_at, as_position, search_to}
 use Rattle.paper.specs.declared.Window.{Window}
-use Rattle.tally.specs.State.{seen, spoilt, after, after_stopped, after_visit, after_spoiled}
-use Rattle.tally.specs.Reads.{or_else, is_position, no_position}
+use Rattle.tally.specs.State.{seen, spoilt, after, after_visit, after_spoiled}
+use Rattle.tally.specs.Reads.{position, is_position, no_position}
+use Rattle.tally.specs.declared.Spoiled.{Spoiled}
 use Rattle.tally.specs.declared.Tally.{Tally}
 use Rattle.slots.specs.declared.Found.{Found}
 
@@ -58,13 +59,17 @@ module _ (ws : List ℤ) (n : ℕ) (w : Window) where
         (enough (hi - lo) (hi - ((lo + hi) / 2 + 1)) ((lo + hi) / 2 + 1) hi (omega arith) (omega arith) (omega arith))
 
   pub record Searched (t : Tally) (r : Found) : Type 0 where
-    pub rest : (l : ℤ) (x : ℕ → List Event) (cells : List ℤ) → after n l (search_to ws n w n 0 n x) (t, cells) ≡ after n l (x r.p) (r.tally, cells)
+    pub rest : (l : ℤ) (x : ℕ → List Event) (cells : List ℤ) → after n l (search_to ws n w n 0 n x) (Ok t, cells) ≡ after n l (x r.p) (Ok r.tally, cells)
     pub inside : r.p ≤ n
     pub visits : r.tally.visits ≤ t.visits + n
 
+  -- a spoiled word was read
+  pub record SearchCut (t : Tally) : Type 0 where
+    pub rest : (l : ℤ) (x : ℕ → List Event) (cells : List ℤ) → after n l (search_to ws n w n 0 n x) (Ok t, cells) ≡ (spoilt, cells)
+
   -- the loop: what is left of the search does what the whole does
   pub record Seeking (t₀ : Tally) (lo hi : ℕ) (t : Tally) : Type 0 where
-    pub rest : (l : ℤ) (x : ℕ → List Event) (cells : List ℤ) → after n l (search_to ws n w n 0 n x) (t₀, cells) ≡ after n l (between x lo hi) (t, cells)
+    pub rest : (l : ℤ) (x : ℕ → List Event) (cells : List ℤ) → after n l (search_to ws n w n 0 n x) (Ok t₀, cells) ≡ after n l (between x lo hi) (Ok t, cells)
     pub order : lo ≤ hi
     pub high : hi ≤ n
     pub visits : t.visits + (hi - lo) ≤ t₀.visits + n
@@ -73,57 +78,42 @@ module _ (ws : List ℤ) (n : ℕ) (w : Window) where
     pub seek_start : Seeking t₀ 0 n t₀
     seek_start =
         let e : n ≡ n - 0 = omega arith in
-        record { rest = λ l x cells. ap (λ (f : ℕ). after n l (search_to ws n w f 0 n x) (t₀, cells)) e; order = omega arith; high = omega arith; visits = omega arith }
+        record { rest = λ l x cells. ap (λ (f : ℕ). after n l (search_to ws n w f 0 n x) (Ok t₀, cells)) e; order = omega arith; high = omega arith; visits = omega arith }
 
     module _ (lo hi : ℕ) (t : Tally) (s : Seeking t₀ lo hi t) where
       pub seek_end : hi ≤ lo → Searched t₀ (record { tally = t; p = lo })
       seek_end h =
           let e : lo ≡ hi = omega (arith, s.order) in
           record {
-            rest = λ l x cells. s.rest l x cells ∙ ap (λ (es : List Event). after n l es (t, cells)) (ended x (hi - lo) lo hi e);
+            rest = λ l x cells. s.rest l x cells ∙ ap (λ (es : List Event). after n l es (Ok t, cells)) (ended x (hi - lo) lo hi e);
             inside = omega (arith, s.order, s.high);
             visits = omega (arith, s.visits);
           }
 
-      pub seek_stopped : 0 < t.stopped → Searched t₀ (record { tally = t; p = lo })
-      seek_stopped h = record {
-        rest = λ l x cells. s.rest l x cells ∙ after_stopped _ _ (between x lo hi) (t, cells) h ∙ sym (after_stopped _ _ (x lo) (t, cells) h);
-        inside = omega (arith, s.order, s.high);
-        visits = omega (arith, s.visits);
-      }
+      module _ (h : lo < hi) where
+        abbrev read : ℤ
+        read = word ws (levels_at n + (lo + hi) / 2)
 
-      module _ (h : lo < hi) (going : t.stopped ≡ 0) (q : ℕ) (said : q ≡ or_else n (word ws (levels_at n + (lo + hi) / 2))) where
-        opened : (l : ℤ) (x : ℕ → List Event) (cells : List ℤ) → after n l (search_to ws n w n 0 n x) (t₀, cells)
-            ≡ after n l (as_position n (word ws (levels_at n + (lo + hi) / 2)) (λ q. cond (le_z w.c (record_at ws q).y1) (between x lo ((lo + hi) / 2)) (between x ((lo + hi) / 2 + 1) hi))) (seen t, cells)
-        opened l x cells = s.rest l x cells ∙ ap (λ (es : List Event). after n l es (t, cells)) (parts x lo hi h) ∙ after_visit n l (t, cells) going atSearch _ _
+        abbrev chosen : (ℕ → List Event) → ℕ → List Event
+        chosen x q = cond (le_z w.c (record_at ws q).y1) (between x lo ((lo + hi) / 2)) (between x ((lo + hi) / 2 + 1) hi)
 
-        pub seek_spoiled : n ≤ q → Searched t₀ (record { tally = spoilt (seen t); p = lo })
-        seek_spoiled b = record {
-          rest = λ l x cells. opened l x cells
-              ∙ ap (λ (es : List Event). after n l es (seen t, cells)) (no_position n q (word ws (levels_at n + (lo + hi) / 2)) said (λ q. cond (le_z w.c (record_at ws q).y1) (between x lo ((lo + hi) / 2)) (between x ((lo + hi) / 2 + 1) hi)) b)
-              ∙ after_spoiled n l (seen t, cells) going ∙ sym (after_stopped n l (x lo) (spoilt (seen t), cells) (omega arith));
-          inside = omega (arith, s.order, s.high);
-          visits = omega (arith, s.visits);
+        opened : (l : ℤ) (x : ℕ → List Event) (cells : List ℤ) → after n l (search_to ws n w n 0 n x) (Ok t₀, cells) ≡ after n l (as_position n read (chosen x)) (Ok (seen t), cells)
+        opened l x cells = s.rest l x cells ∙ ap (λ (es : List Event). after n l es (Ok t, cells)) (parts x lo hi h) ∙ after_visit n l t cells atSearch _ _
+
+        pub seek_spoiled : (e : Spoiled) → position n read ≡ Err e → SearchCut t₀
+        seek_spoiled e b = record {
+          rest = λ l x cells. opened l x cells ∙ ap (λ (es : List Event). after n l es (Ok (seen t), cells)) (no_position n read (chosen x) e b) ∙ after_spoiled n l (seen t) cells;
         }
 
-        chosen : q < n → (l : ℤ) (x : ℕ → List Event) (cells : List ℤ) → after n l (search_to ws n w n 0 n x) (t₀, cells)
-            ≡ after n l (cond (le_z w.c (record_at ws q).y1) (between x lo ((lo + hi) / 2)) (between x ((lo + hi) / 2 + 1) hi)) (seen t, cells)
-        chosen b l x cells = opened l x cells ∙ ap (λ (es : List Event). after n l es (seen t, cells)) (is_position n q (word ws (levels_at n + (lo + hi) / 2)) said (λ q. cond (le_z w.c (record_at ws q).y1) (between x lo ((lo + hi) / 2)) (between x ((lo + hi) / 2 + 1) hi)) b)
+        module _ (q : ℕ) (b : position n read ≡ Ok q) where
+          goes : (v : Bool) → v ≡ le_z w.c (record_at ws q).y1 → (l : ℤ) (x : ℕ → List Event) (cells : List ℤ)
+              → after n l (search_to ws n w n 0 n x) (Ok t₀, cells) ≡ after n l (cond v (between x lo ((lo + hi) / 2)) (between x ((lo + hi) / 2 + 1) hi)) (Ok (seen t), cells)
+          goes v e l x cells = opened l x cells
+              ∙ ap (λ (es : List Event). after n l es (Ok (seen t), cells)) (is_position n read (chosen x) q b)
+              ∙ ap (λ (c : Bool). after n l (cond c (between x lo ((lo + hi) / 2)) (between x ((lo + hi) / 2 + 1) hi)) (Ok (seen t), cells)) (sym e)
 
-        pub seek_down : q < n → true ≡ le_z w.c (record_at ws q).y1 → Seeking t₀ lo ((lo + hi) / 2) (seen t)
-        seek_down b e = record {
-          rest = λ l x cells. chosen b l x cells
-              ∙ ap (λ (c : Bool). after n l (cond c (between x lo ((lo + hi) / 2)) (between x ((lo + hi) / 2 + 1) hi)) (seen t, cells)) (sym e);
-          order = omega arith;
-          high = omega (arith, s.high);
-          visits = omega (arith, s.visits);
-        }
+          pub seek_down : true ≡ le_z w.c (record_at ws q).y1 → Seeking t₀ lo ((lo + hi) / 2) (seen t)
+          seek_down e = record { rest = goes true e; order = omega arith; high = omega (arith, s.high); visits = omega (arith, s.visits) }
 
-        pub seek_up : q < n → false ≡ le_z w.c (record_at ws q).y1 → Seeking t₀ ((lo + hi) / 2 + 1) hi (seen t)
-        seek_up b e = record {
-          rest = λ l x cells. chosen b l x cells
-              ∙ ap (λ (c : Bool). after n l (cond c (between x lo ((lo + hi) / 2)) (between x ((lo + hi) / 2 + 1) hi)) (seen t, cells)) (sym e);
-          order = omega arith;
-          high = s.high;
-          visits = omega (arith, s.visits);
-        }
+          pub seek_up : false ≡ le_z w.c (record_at ws q).y1 → Seeking t₀ ((lo + hi) / 2 + 1) hi (seen t)
+          seek_up e = record { rest = goes false e; order = omega arith; high = s.high; visits = omega (arith, s.visits) }

@@ -1,134 +1,68 @@
 // The slots of an index's levels, walked over any words: the search of level 0, and the slots of a node that lies inside the window's a..b.
 #![tactic(auto)]
 
-ghost use Rattle.std.specs.Prelude.{◌≡◌, ◌+◌, ◌*◌, ◌^◌, ◌<◌, ◌≤◌, length};
+ghost use Rattle.std.specs.Prelude.{◌≡◌, ◌+◌, ◌^◌, ◌<◌, ◌≤◌, length, MatchResult};
 ghost use Rattle.paper.specs.Walk.{slots_walk};
 ghost use Rattle.paper.specs.Words.{levels_at};
 ghost use Rattle.tally.specs.State.{Along};
-ghost use Rattle.tally.specs.Reads.{Ready};
-ghost use Rattle.slots.specs.Search.{Searched};
-ghost use Rattle.slots.specs.Slots.{Slotted};
+ghost use Rattle.slots.specs.Search.{Searched, SearchCut};
 
+use axes::Word;
 use paper::Window;
-use tally::{Index, Tally, coordinate_at, keeps, levels_at, list, reaches, see, stop, whole_at};
+use tally::{Index, Spoiled, Tally, levels_at};
 
-// What the search leaves: the slot to begin at.
-#[derive(Clone, Copy)]
+/// What the search leaves: the slot to begin at.
+#[derive(Clone, Copy, Debug, PartialEq, Eq)]
 pub struct Found {
     pub tally: Tally,
     pub p: usize,
 }
 
-// The first slot of level 0 whose y is at least c.
-pub fn search(words: &[i32], n: usize, window: Window, tally0: Tally) -> Found
-    requires n_bound { (n ≤ 65536) × (levels_at n + n ≤ length words.now) }
-    requires n_bound_2 { tally0.visits + n < 2 ^ 20 }
-    ensures { Searched words.now n window tally0 result }
+/// The first slot of level 0 whose y is at least c.
+pub fn search(index: Index, window: Window, mut tally: Tally) -> Result<Found, Spoiled>
+    requires words { levels_at index.n + index.n ≤ length index.words.now }
+    requires few { tally.visits + index.n < 2 ^ 20 }
+    ensures { MatchResult result (λ found. Searched index.entry.words.now index.entry.n window tally found) (λ _. SearchCut index.entry.words.now index.entry.n window tally) }
 {
-    let mut tally = tally0;
-    let mut lo: usize = 0;
+    let n = index.n;
+    let mut lo = 0;
     let mut hi = n;
+    // Kept: each mid is a visit and a spoiled one ends the search (paper's `search_to`); std's binary searches count none and cannot fail.
     while lo < hi {
-        if 0 < tally.stopped {
-            return Found {
-                tally: tally,
-                p: lo,
-            };
-        }
         let mid = (lo + hi) / 2;
-        let next = see(tally);
-        tally = next;
-        let q = whole_at(words, levels_at(n) + mid, n);
-        if n <= q {
-            return Found {
-                tally: stop(tally),
-                p: lo,
-            };
-        }
-        if reaches(words, coordinate_at(q, 1), window.c) {
+        tally = tally.seen();
+        let q = index.position_at(levels_at(n) + mid)?;
+        let reaches = window.c <= index.coordinate(q, Word::Y1);
+        if reaches {
             hi = mid;
         } else {
             lo = mid + 1;
         }
     }
-    Found {
-        tally: tally,
-        p: lo,
-    }
+    Ok(Found { tally, p: lo })
 }
 
-// What one slot leaves: whether the next one is read, which is not so after a spoiled word.
-#[derive(Clone, Copy)]
-pub struct Slot {
-    pub tally: Tally,
-    pub more: bool,
-}
-
-fn one_slot(
-    words: &[i32],
-    numbers: &mut [i32],
-    index: Index,
-    window: Window,
-    tally: Tally,
-    at: usize,
-) -> Slot
-    requires ready { Ready index words.now }
-    requires at_in_bounds { at < length words.now }
-    requires stopped_value { (tally.stopped ≡ 0) × (tally.visits + 1 < 2 ^ 64) }
-    ensures { Slotted words.now index window at (tally, numbers.old) result numbers.new }
-{
-    let n = index.n;
-    let seen = see(tally);
-    let q = whole_at(words, at, n);
-    if n <= q {
-        return Slot {
-            tally: stop(seen),
-            more: false,
-        };
-    }
-    if !keeps(words, coordinate_at(q, 1), window.d) {
-        return Slot {
-            tally: seen,
-            more: false,
-        };
-    }
-    let listed = list(numbers, index, seen, q);
-    Slot {
-        tally: listed,
-        more: listed.stopped == 0,
-    }
-}
-
-// The slots from a word on, until one is above the window.
+/// The slots from a word on, so many or until one is above the window.
 pub fn slots(
-    words: &[i32],
-    numbers: &mut [i32],
     index: Index,
+    numbers: &mut [i32],
     window: Window,
-    tally0: Tally,
-    count0: usize,
+    mut tally: Tally,
+    count: usize,
     at0: usize,
-) -> Tally
-    requires ready { Ready index words.now }
-    requires count0_in_bounds { at0 + count0 ≤ length words.now }
-    requires count0_bound { tally0.visits + count0 < 2 ^ 20 }
-    ensures { Along index.n index.lower (slots_walk words.now index.n window count0 at0) count0 (tally0, numbers.old) (result, numbers.new) }
+) -> Result<Tally, Spoiled>
+    requires words { at0 + count ≤ length index.words.now }
+    requires few { tally.visits + count < 2 ^ 20 }
+    ensures { Along index.entry.n index.entry.lower (slots_walk index.entry.words.now index.entry.n window count at0) count tally numbers.old result numbers.new }
 {
-    if 0 < tally0.stopped {
-        return tally0;
-    }
-    let mut tally = tally0;
-    let mut count = count0;
-    let mut at = at0;
-    while 0 < count {
-        let slot = one_slot(words, numbers, index, window, tally, at);
-        let next = slot.tally;
-        tally = next;
-        if !slot.more {
-            return tally;
+    for at in at0..at0 + count {
+        tally = tally.seen();
+        let q = index.position_at(at)?;
+        let above = window.d < index.coordinate(q, Word::Y1);
+        if above {
+            return Ok(tally);
         }
-        count = count - 1;
-        at = at + 1;
+        tally = tally.list(numbers, index, q)?;
     }
-    tally
+    Ok(tally)
 }

@@ -2,160 +2,116 @@
 // stand in a pipe. A reading error or a closed pipe ends it quietly with what was answered so far.
 #![tactic(auto)]
 
-ghost use Rattle.std.specs.Prelude.{◌≡◌, ◌≤◌, length};
-ghost use Rattle.lines.specs.Reading.{Buffers, Sound};
+ghost use Rattle.std.specs.Prelude.{IfOk};
+ghost use Rattle.lines.specs.Reading.{Sound};
+ghost use Rattle.survey.specs.Turns.{Filled, Empty};
 
-use lines::Reader;
-use std::io::{Read, Stdin, Stdout, Write};
+use lines::{Desk, Reader};
+use std::io::{self, Read, Stdin, Stdout, Write};
+use texts::Output;
 
-// Writes the first n bytes of the output; whether that went well.
-fn write_out(mut output: Stdout, out: &[u8], n: usize) -> bool {
-    if n == 0 {
-        return true;
-    }
-    if n <= out.len() {
-        return output.write_all(&out[..n]).is_ok();
-    }
-    false
+// Writes out what was printed, and empties the output.
+fn write_out(mut output: Stdout, out: &mut Output) -> io::Result<()>
+    requires { Filled out.old }
+    ensures { IfOk result (λ _. Empty out.new) }
+{
+    let end = out.len;
+    output.write_all(&out.bytes[..end])?;
+    out.clear();
+    Ok(())
 }
 
 // As much of a chunk as the output has room for, handed on, and what it prints written.
 fn pass(
     output: Stdout,
     chunk: &[u8],
-    r: Reader,
-    carry: &mut [u8],
-    cells: &mut [i32],
-    index: &mut [i32],
-    numbers: &mut [i32],
-    out: &mut [u8],
-) -> Reader
-    requires { Buffers cells.old index.old numbers.old carry.old × Sound r cells.old index.old carry.old × (r.out ≡ 0) }
-    ensures { Sound result cells.new index.new carry.new × (result.out ≡ 0) }
+    reader: Reader,
+    desk: &mut Desk,
+    out: &mut Output,
+) -> io::Result<Reader>
+    requires { Sound reader desk.old × Empty out.old }
+    ensures { IfOk result (λ after. Sound after desk.new × Empty out.new) }
 {
-    let x = lines::feed(chunk, r, carry, cells, index, numbers, out);
-    let n = x.out;
-    if write_out(output, out, n) {
-        return lines::written(x);
-    }
-    lines::stopped()
-}
-
-fn is_read(r: Reader, len: usize) -> bool {
-    r.ended | (len <= r.at)
+    let after = reader.feed(chunk, desk, out);
+    write_out(output, out)?;
+    Ok(after)
 }
 
 // A chunk, handed on again whenever the output was full; the reader after it. Each turn reads a byte at least, so the turns are enough.
 fn hand_on(
     output: Stdout,
     chunk: &[u8],
-    r: Reader,
-    carry: &mut [u8],
-    cells: &mut [i32],
-    index: &mut [i32],
-    numbers: &mut [i32],
-    out: &mut [u8],
-) -> Reader
-    requires { Buffers cells.old index.old numbers.old carry.old × Sound r cells.old index.old carry.old × (r.out ≡ 0) }
-    ensures { Sound result cells.new index.new carry.new × (result.out ≡ 0) }
+    reader: Reader,
+    desk: &mut Desk,
+    out: &mut Output,
+) -> io::Result<Reader>
+    requires { Sound reader desk.old × Empty out.old }
+    ensures { IfOk result (λ after. Sound after desk.new × Empty out.new) }
 {
-    let mut x = r;
-    let mut turns = chunk.len();
-    while turns > 0 {
-        x = pass(output, chunk, x, carry, cells, index, numbers, out);
-        if is_read(x, chunk.len()) {
-            return x;
+    let mut after = reader;
+    for _ in 0..chunk.len() {
+        after = pass(output, chunk, after, desk, out)?;
+        if after.state.is_none() || chunk.len() <= after.at {
+            return Ok(after);
         }
-        turns -= 1;
     }
-    x
+    Ok(after)
 }
 
 // The end of the input: the last line, if its line feed is missing.
-fn end(
-    output: Stdout,
-    r: Reader,
-    carry: &mut [u8],
-    cells: &mut [i32],
-    index: &mut [i32],
-    numbers: &mut [i32],
-    out: &mut [u8],
-) -> Reader
-    requires { Buffers cells.old index.old numbers.old carry.old × Sound r cells.old index.old carry.old × (r.out ≡ 0) × (length out.old ≡ 65536) }
-    ensures { Sound result cells.new index.new carry.new × (result.out ≡ 0) }
+fn end(output: Stdout, reader: Reader, desk: &mut Desk, out: &mut Output) -> io::Result<()>
+    requires { Sound reader desk.old × Empty out.old }
+    ensures { IfOk result (λ _. Empty out.new) }
 {
-    if 4611686018427387904 <= r.line {
-        return lines::stopped();
+    let few = reader.line < 4611686018427387904;
+    if few {
+        reader.finish(desk, out);
+        write_out(output, out)?;
     }
-    let y = lines::finish(r, carry, cells, index, numbers, out);
-    let n = y.out;
-    write_out(output, out, n);
-    lines::stopped()
+    Ok(())
 }
 
-// Reads once, and hands on what came.
+// Reads once, and hands on what came; after the end of the input the reader has stopped.
 fn turn(
     mut input: Stdin,
     output: Stdout,
-    r: Reader,
-    carry: &mut [u8],
-    cells: &mut [i32],
-    index: &mut [i32],
-    numbers: &mut [i32],
-    out: &mut [u8],
-) -> Reader
-    requires { Buffers cells.old index.old numbers.old carry.old × Sound r cells.old index.old carry.old × (r.out ≡ 0) × (length out.old ≡ 65536) }
-    ensures { Sound result cells.new index.new carry.new × (result.out ≡ 0) }
+    reader: Reader,
+    desk: &mut Desk,
+    out: &mut Output,
+) -> io::Result<Reader>
+    requires { Sound reader desk.old × Empty out.old }
+    ensures { IfOk result (λ after. Sound after desk.new × Empty out.new) }
 {
     let mut buffer = [0u8; 65536];
-    match input.read(&mut buffer) {
-        Err(_) => lines::stopped(),
-        Ok(n) => {
-            if n == 0 {
-                return end(output, r, carry, cells, index, numbers, out);
-            }
-            let x = lines::next_chunk(r);
-            hand_on(output, &buffer[..n], x, carry, cells, index, numbers, out)
-        }
+    let n = input.read(&mut buffer)?;
+    if n > 0 {
+        return hand_on(output, &buffer[..n], reader.next_chunk(), desk, out);
     }
+    end(output, reader, desk, out)?;
+    Ok(Reader::stopped())
 }
 
-// Nothing says that the input ends, so the turns are counted down from a number that no run uses up.
-fn run(
-    input: Stdin,
-    output: Stdout,
-    carry: &mut [u8],
-    cells: &mut [i32],
-    index: &mut [i32],
-    numbers: &mut [i32],
-    out: &mut [u8],
-)
-    requires { Buffers cells.old index.old numbers.old carry.old × (length out.old ≡ 65536) }
+// Nothing says that the input ends, so the turns are counted up to a number that no run reaches.
+fn run(input: Stdin, output: Stdout, desk: &mut Desk, out: &mut Output) -> io::Result<()>
+    requires { Empty out.old }
 {
-    let mut r = lines::start();
-    let mut turns = u64::MAX;
-    while turns > 0 {
-        r = turn(input, output, r, carry, cells, index, numbers, out);
-        if r.ended {
-            return;
+    let mut reader = Reader::start();
+    for _ in 0..u64::MAX {
+        reader = turn(input, output, reader, desk, out)?;
+        if reader.state.is_none() {
+            return Ok(());
         }
-        turns -= 1;
     }
+    Ok(())
 }
 
 fn main(rt: HostRuntime) {
-    let mut carry = [0u8; 80];
-    let mut cells = [0i32; 1024];
-    let mut index = [0i32; 7684];
-    let mut numbers = [0i32; 256];
-    let mut out = [0u8; 65536];
-    run(
-        rt.stdin(),
-        rt.stdout(),
-        &mut carry,
-        &mut cells,
-        &mut index,
-        &mut numbers,
-        &mut out,
-    );
+    let mut desk = Desk::new();
+    let mut bytes = [0u8; 65536];
+    let mut out = Output {
+        bytes: &mut bytes,
+        len: 0,
+    };
+    // an error ends the program as quietly as the end of the input does
+    let _ = run(rt.stdin(), rt.stdout(), &mut desk, &mut out);
 }

@@ -39,12 +39,6 @@ module _ (d : Descriptor) (i j : ℕ) (a : (i < 4096) × (j < 4) × ((bad_stride
   abbrev column_term : Ex
   column_term = small j 4 (omega arith) ⊗ stride d.coordinate_stride (strides_fit d a.2).1
 
-  pub row_fits : {m : ℤ} → m ≡ pos i → SFits w64 (R m *ℤ R d.segment_stride)
-  row_fits e = rw e (asks w64 row_term tt)
-
-  pub column_fits : {n : ℤ} → n ≡ pos j → SFits w64 (R n *ℤ R d.coordinate_stride)
-  column_fits e = rw e (asks w64 column_term tt)
-
   pub sum_fits : {m n : ℤ} → m ≡ pos i → n ≡ pos j → SFits w64 (R (R m *ℤ R d.segment_stride) +ℤ R (R n *ℤ R d.coordinate_stride))
   sum_fits e f = rw (e, f) (asks w64 (row_term ⊕ column_term) tt)
 

@@ -1,7 +1,8 @@
 -- The first and the last cell that a table addresses, and what the cells between them say of its segments.
-use Rattle.std.specs.Prelude.{◌≡◌, refl, Bool, true, false, not, ◌&&◌, cond, List, ℕ, ◌+◌, ◌-◌, ◌≤◌, ◌<◌, ℤ, pos, negsuc, ◌+ℤ◌, ◌*ℤ◌, get_or, ◌≤ℤ◌}
+use Rattle.std.specs.Prelude.{◌≡◌, refl, Bool, true, false, not, ◌&&◌, cond, List, ℕ, ◌+◌, ◌-◌, ◌≤◌, ◌<◌, ℤ, pos, negsuc, ◌+ℤ◌, ◌*ℤ◌, get_or, take, drop, length, ◌≤ℤ◌}
 use Rattle.std.proofs.Common.{sym, ap, ap₂, ◌∙◌, subst, arith}
 use Rattle.std.proofs.lemmas.Bool.{not-false}
+use Rattle.std.proofs.lemmas.List.{get_or-take, get_or-drop, length-take-le, length-drop}
 use Rattle.std.specs.Int.Signed.{lt_z}
 use Rattle.whole.specs.Whole.{#, ◌⊕◌, ◌⊗◌, of, whole, times}
 use Rattle.lists.specs.Plain.{any, positions, to_nat}
@@ -75,9 +76,10 @@ module _ (d : Descriptor) (m : ℕ) where
           go (negsuc k) h g = absurd h.le
 
     -- no cell between them is beyond the limits, so no coordinate is
-    pub none_far : (table : List ℤ) {n : ℕ} → n ≡ m + 1 → any (λ k. not (coordinate_fits (get_or table (first + k) (pos 0)))) (positions (end - first + 1)) ≡ false
+    pub none_far : (table : List ℤ) {n w : ℕ} → n ≡ m + 1 → w ≡ end - first + 1 → end < length table
+        → any (λ k. not (coordinate_fits (get_or (take w (drop first table)) k (pos 0)))) (positions (length (take w (drop first table)))) ≡ false
         → any (λ p. far_off (segment_of d table p)) (positions n) ≡ false
-    none_far table {n} q none = any_none (λ p. far_off (segment_of d table p)) n near
+    none_far table {n} {w} q u r none = any_none (λ p. far_off (segment_of d table p)) n near
       where
         and : Bool → Bool → Bool
         and a b = a && b
@@ -87,8 +89,11 @@ module _ (d : Descriptor) (m : ℕ) where
             let b = between i j h g in
             let k : ℕ = to_nat (cell_of d i j) - first in
             let s : first + k ≡ to_nat (cell_of d i j) = omega arith in
+            let l : k < w = omega arith in
+            let o = length-take-le w (drop first table) (simp length-drop (omega arith)) in
             ap (λ a. coordinate_fits (get_or table a (pos 0))) (sym s)
-            ∙ not-false _ (none_at (λ k. not (coordinate_fits (get_or table (first + k) (pos 0)))) (end - first + 1) k none (omega arith))
+            ∙ ap coordinate_fits (sym (get_or-take w (drop first table) k (pos 0) l ∙ get_or-drop first table k (pos 0)))
+            ∙ not-false _ (none_at (λ k. not (coordinate_fits (get_or (take w (drop first table)) k (pos 0)))) _ k none (omega (arith, o)))
 
         near : (p : ℕ) → p < n → far_off (segment_of d table p) ≡ false
         near p h =

@@ -1,26 +1,30 @@
 -- Answer 12, row by row: the cells of a table that is not refused, the ends of the rows that decide it, and the first cell outside.
-use Rattle.std.specs.Prelude.{◌≡◌, refl, Bool, true, false, not, ◌&&◌, ◌||◌, List, [], ◌∷◌, map, ℕ, ◌+◌, ◌≤◌, ◌<◌, ℤ, pos, negsuc, neg_ℤ, ◌+ℤ◌, ◌*ℤ◌, ◌≤ℤ◌, ◌<ℤ◌}
-use Rattle.std.proofs.Common.{sym, ◌∙◌, subst, arith, below_none, lt-ltb, le-ltb, SFits}
+use Rattle.std.specs.Prelude.{◌≡◌, refl, Bool, true, false, not, ◌&&◌, ◌||◌, List, [], ◌∷◌, map, ℕ, ◌+◌, ◌≤◌, ◌<◌, ℤ, pos, negsuc, neg_ℤ, ◌+ℤ◌, ◌*ℤ◌, ◌≤ℤ◌, ◌<ℤ◌, nat_abs, Option, Some, None, is_some}
+use Rattle.std.proofs.Common.{T, sym, ◌∙◌, subst, arith, below_none, SFits, Fits}
 use Rattle.std.proofs.Math.Path.{ap}
 use Rattle.std.proofs.Math.Bool.{cond}
-use Rattle.std.proofs.Math.Decide.{dec_lt}
 use Rattle.std.proofs.lemmas.Bool.{not-false}
-use Rattle.std.proofs.Math.Dec.{T, ltb→lt}
 use Rattle.std.specs.Int.{w64}
-use Rattle.std.proofs.lemmas.Int.{to_z-of_z}
-use Rattle.whole.specs.Whole.{#, ◌⊕◌, ◌⊗◌, of, whole, fits_by}
+use lib.Signed.{non_neg}
+use Rattle.whole.specs.Whole.{#, ◌⊕◌, ◌⊗◌, of, whole}
 use Rattle.lists.specs.Plain.{same, any, filter, joined, positions, to_nat}
 use Rattle.lists.specs.Tests.{cases, or_false, within_true}
 use Rattle.lists.specs.Filters.{filter_map}
-use Rattle.lists.specs.Choosing.{First, stopped, first_any, any_joined, any_map, any_none, any_some, none_at, chosen_none, filter_first, parts_none, parts_first}
+use Rattle.lists.specs.Choosing.{any_joined, any_map, any_none, any_some, none_at, chosen_none, filter_first, parts_none, parts_first}
 use Rattle.paper.specs.Limits.{extent_fits, lower_fits}
 use Rattle.paper.specs.Descriptor.{first_number, cell_of, size_of, addressed, outside}
-use Rattle.paper.specs.Answers.{answer, answer_at_cell, bad_lower, bad_extent, bad_strides, bad_cells}
+use Rattle.paper.specs.Answers.{answer_at_cell, bad_lower, bad_extent, bad_strides, bad_cells}
 use Rattle.paper.specs.declared.Descriptor.{Descriptor}
+use Rattle.table.specs.declared.Place.{Place}
 use Rattle.table.specs.Cells.{row_outside, Held, outside_at}
-use Rattle.table.specs.Address.{R, along, inside_of, inside_fits}
+use Rattle.table.specs.Address.{along, inside_of, inside_fits}
 
 -- ---- answer 12 by rows
+-- given exactly where a cell was found
+pub given_is : (r : Option Place) → is_some r ≡ (outside_at r).given
+given_is None = refl
+given_is (Some r) = refl
+
 -- whether a cell, by its position and coordinate, is outside
 abbrev is_outside : ℤ → Descriptor → ℕ × ℕ → Bool
 is_outside len d p = outside len (cell_of d p.0 p.1)
@@ -54,25 +58,30 @@ module _ (len : ℤ) (d : Descriptor) where
   row_of : (i : ℕ) → filter (is_outside len d) (row i) ≡ map (λ j. (i, j)) (filter (λ j. outside len (cell_of d i j)) (positions 4))
   row_of i = filter_map (λ j. (i, j)) (is_outside len d) (positions 4)
 
+  -- the first of the cells of n rows, if there is one
+  abbrev pub FirstCell : ℕ → Option Place → Type 0
+  FirstCell n None = (i : ℕ) → i < n → row_outside len d i ≡ false
+  FirstCell n (Some r) =
+      (r.position < n) × ((i : ℕ) → i < r.position → row_outside len d i ≡ false) × (r.coordinate < 4)
+      × ((j : ℕ) → j < r.coordinate → outside len (cell_of d r.position j) ≡ false) × (outside len (cell_of d r.position r.coordinate) ≡ true)
+
   row_none : (i : ℕ) → row_outside len d i ≡ false → filter (is_outside len d) (row i) ≡ []
   row_none i h =
       row_of i ∙ ap (map (λ j. (i, j))) (chosen_none (λ j. outside len (cell_of d i j)) 4 (λ j l. none_at (λ j. outside len (cell_of d i j)) 4 j h l))
 
-  pub first_cell : (n i j : ℕ) → n ≡ size_of d → First (row_outside len d) n i → (i < n → First (λ j. outside len (cell_of d i j)) 4 j)
-      → bad_cells len d ≡ outside_at n i j
+  -- by the rows one after another, up to the first that has one
+  pub first_cell : (n : ℕ) (r : Option Place) → n ≡ size_of d → FirstCell n r → bad_cells len d ≡ outside_at r
   unfolding addressed
-  first_cell n i j e s f = ap (λ m. answer_at_cell 12 (filter (is_outside len d) (joined (map row (positions m))))) (sym e) ∙ go (dec_lt i n)
+  first_cell n r e f = ap (λ m. answer_at_cell 12 (filter (is_outside len d) (joined (map row (positions m))))) (sym e) ∙ go r f
     where
-      go : Dec (i < n) → answer_at_cell 12 (filter (is_outside len d) (joined (map row (positions n)))) ≡ outside_at n i j
-      go (yes l) =
-          let g = f l in
-          let inner : j < 4 = ltb→lt j 4 (subst T (sym (first_any g ∙ s.here l)) tt) in
-          let t = filter_first (λ j. outside len (cell_of d i j)) 4 j inner g.before (g.here inner) in
-          let u = parts_first (is_outside len d) row n i l (λ k h. row_none k (s.before k h)) (i, j) (map (λ k. (i, k)) t.0) (row_of i ∙ ap (map (λ k. (i, k))) t.1) in
-          ap (answer_at_cell 12) u.1 ∙ ap (λ b. cond b (record { number = 12; given = true; count = j; position = i }) (answer 12 false)) (sym (lt-ltb i n l))
-      go (no l) =
-          ap (answer_at_cell 12) (parts_none (is_outside len d) row n (λ k h. row_none k (s.before k (omega arith))))
-          ∙ ap (λ b. cond b (record { number = 12; given = true; count = j; position = i }) (answer 12 false)) (sym (le-ltb i n (omega arith)))
+      go : (r : Option Place) → FirstCell n r → answer_at_cell 12 (filter (is_outside len d) (joined (map row (positions n)))) ≡ outside_at r
+      go None none = ap (answer_at_cell 12) (parts_none (is_outside len d) row n (λ i h. row_none i (none i h)))
+      go (Some r) (h, before, within, none, here) =
+          let i = r.position in
+          let j = r.coordinate in
+          let t = filter_first (λ j. outside len (cell_of d i j)) 4 j within none here in
+          let u = parts_first (is_outside len d) row n i h (λ k l. row_none k (before k l)) (i, j) (map (λ k. (i, k)) t.0) (row_of i ∙ ap (map (λ k. (i, k))) t.1) in
+          ap (answer_at_cell 12) u.1
 
 row_some : (len : ℤ) (d : Descriptor) (n i j : ℕ) → i < n → j < 4 → outside len (cell_of d i j) ≡ true → any (row_outside len d) (positions n) ≡ true
 row_some len d n i j h g e = any_some (row_outside len d) n i h (any_some (λ j. outside len (cell_of d i j)) 4 j g e)
@@ -92,17 +101,6 @@ extent_of n e = let p = within_true (pos 0) (pos 4096) n (not-false (extent_fits
     go (pos k) h g = (h, refl, omega whole)
     go (negsuc k) h g = absurd h.le
 
--- the extent, as the code has it
-module _ (n : ℤ) (e : (bad_extent n).given ≡ false) where
-  extent_back : R n ≡ n
-  extent_back = let p = extent_of n e in to_z-of_z w64 n (subst (SFits w64) p.1 (fits_by w64 (pos (to_nat n)) (omega (arith, p.2))))
-
-  pub extent_low : pos 0 ≤ℤ R n
-  extent_low = rw extent_back (extent_of n e).0
-
-  pub count_is : (r : ℕ) → pos r ≡ R n → (r ≡ to_nat n) × (r ≤ 4096)
-  count_is r f = let g : r ≡ to_nat n = ap to_nat (f ∙ extent_back) in (g, omega (arith, g, (extent_of n e).2))
-
 module _ (len : ℤ) (d : Descriptor) (h : Held len d) where
   pub held_size : size_of d ≤ 4096
   held_size = (extent_of d.extent h.extent).2
@@ -112,6 +110,15 @@ module _ (len : ℤ) (d : Descriptor) (h : Held len d) where
 
   pub held_cell : (i j : ℕ) → i < size_of d → j < 4 → outside len (cell_of d i j) ≡ false
   held_cell i j l g = none_at (λ j. outside len (cell_of d i j)) 4 j (none_at (row_outside len d) (size_of d) i (sym (cells_are_is len d) ∙ h.cells) l) g
+
+-- a number that is not negative, as an index
+pub index_fits : (z : ℤ) → pos 0 ≤ℤ z → SFits w64 z → T (non_neg z) × Fits w64 (nat_abs z)
+index_fits (pos k) h f = (tt, record { fits = omega (arith, f.sfits) })
+index_fits (negsuc k) h f = absurd h.le
+
+pub index_back : (z : ℤ) → pos 0 ≤ℤ z → pos (nat_abs z) ≡ z
+index_back (pos k) h = refl
+index_back (negsuc k) h = absurd h.le
 
 -- one cell of a table of n cells, and the index that it becomes
 module _ (n : ℕ) (d : Descriptor) (i j : ℕ) (f : SFits w64 (pos n)) (l : i < size_of d) (g : j < 4) (h : Held (pos n) d) where
@@ -126,10 +133,6 @@ module _ (n : ℕ) (d : Descriptor) (i j : ℕ) (f : SFits w64 (pos n)) (l : i <
     where
       under : cell_of d i j <ℤ pos n → k < n
       under m = omega (whole, subst (λ (z : ℤ). z <ℤ pos n) (sym e) m)
-
--- what is said of a length that went through the machine's bits
-pub first_through : {len : ℤ} (q : ℤ → ℕ → Bool) {n r : ℕ} → SFits w64 len → First (q (R len)) n r → First (q len) n r
-first_through {len} q {n} {r} f s = subst (λ (l : ℤ). First (q l) n r) (to_z-of_z w64 len f) s
 
 -- ---- the ends of the first row and of the last
 module _ (len : ℤ) (d : Descriptor) where
@@ -169,12 +172,8 @@ module _ (len : ℤ) (d : Descriptor) where
           sym (any_none (row_outside len d) n (λ i h. any_none (λ j. outside len (cell_of d i j)) 4 (λ j k. between_ends m b e f g i j (omega arith) (omega arith))))
 
   -- a base outside the table is the first cell of all
-  pub base_outside : (n : ℕ) → 0 < n → outside len d.base ≡ true → First (row_outside len d) n 0 × First (λ j. outside len (cell_of d 0 j)) 4 0
-  base_outside n h e =
-      let out : outside len (cell_of d 0 0) ≡ true = ap (outside len) origin ∙ e in (
-        stopped h (below_none _) (any_some (λ j. outside len (cell_of d 0 j)) 4 0 (omega arith) out),
-        stopped (omega arith) (below_none _) out,
-      )
+  pub base_outside : (n : ℕ) → 0 < n → outside len d.base ≡ true → FirstCell len d n (Some (record { position = 0; coordinate = 0 }))
+  base_outside n h e = (h, below_none _, omega arith, below_none _, ap (outside len) origin ∙ e)
     where
       origin : cell_of d 0 0 ≡ d.base
       origin = let b = d.base in omega (whole, of (# b ⊕ # (pos 0) ⊗ # d.segment_stride ⊕ # (pos 0) ⊗ # d.coordinate_stride))

@@ -1,65 +1,95 @@
--- Words as the code reads them: a whole number or another one in a negative word's place; a record's coordinates by number.
-use Rattle.std.specs.Prelude.{◌≡◌, refl, Bool, true, false, not, ◌&&◌, List, [], ◌∷◌, ℕ, zero, suc, ◌+◌, ◌-◌, ◌*◌, ◌≤◌, ◌<◌, leb, ltb, ℤ, pos, negsuc, ◌+ℤ◌, length}
-use Rattle.std.proofs.Common.{sym, ap, ap₂, ◌∙◌, true≢false, arith, lt-ltb, le-ltb, le-leb, leb-true, leb-false}
+-- Words as the code reads them: a whole number, a position, a count.
+use Rattle.std.specs.Prelude.{◌≡◌, refl, Bool, true, false, cond, not, ◌&&◌, List, [], ◌∷◌, ℕ, ◌+◌, ◌-◌, ◌≤◌, ◌<◌, leb, ltb, ℤ, pos, negsuc, ◌+ℤ◌, length, Option, Some, None, Result, Ok, Err}
+use Rattle.std.proofs.Common.{sym, ap, ◌∙◌, true≢false, arith, le-leb, leb-true}
 use Rattle.std.proofs.lemmas.Bool.{lt-leb}
 use Rattle.std.specs.Int.Signed.{le_z, lt_z}
+use Rattle.std.specs.Option.{unwrap_or}
+use Rattle.lists.specs.Orders.{lt_z_not}
 use Rattle.lists.specs.Plain.{same, to_nat}
 use Rattle.paper.specs.Limits.{lower_fits}
-use Rattle.paper.specs.Words.{record_words, records_at, levels_at}
-use Rattle.paper.specs.Walk.{Event, spoiled, word, record_at, sound, as_position, as_count, sizes_fit}
-use Rattle.paper.specs.declared.Segment.{Segment}
-use Rattle.tally.specs.declared.Index.{Index}
+use Rattle.paper.specs.Words.{levels_at}
+use Rattle.paper.specs.Walk.{Event, spoiled, sound, as_position, as_count, sizes_fit}
+use Rattle.tally.specs.declared.Spoiled.{Spoiled}
 
--- the whole number that z says, d where z is negative
+-- what an index has: n and lower bound within limits, and n records
+pub record Ready (ws : List ℤ) (n : ℕ) (first : ℤ) : Type 0 where
+  pub small : n ≤ 65536
+  pub lower : lower_fits first ≡ true
+  pub records : levels_at n ≤ length ws
+
+-- the whole number that a word says
+abbrev pub natural : ℤ → Option ℕ
+natural (pos k) = Some k
+natural (negsuc k) = None
+
+-- a word that is read as a whole number of which a test holds
+abbrev pub tested : (ℕ → Bool) → ℤ → Result ℕ Spoiled
+tested ok (pos k) = cond (ok k) (Ok k) (Err (record {}))
+tested ok (negsuc k) = Err (record {})
+
+-- a word that is read as a position
+abbrev pub position : ℕ → ℤ → Result ℕ Spoiled
+position n z = tested (λ p. ltb p n) z
+
+-- a word that is read as the count at slot p of a node
+abbrev pub count : (p left right : ℕ) → ℤ → Result ℕ Spoiled
+count p left right z = tested (λ k. leb k p && leb k left && leb (p - k) right) z
+
+-- what follows a word that was read
+abbrev pub follow : Result ℕ Spoiled → (ℕ → List Event) → List Event
+follow (Ok k) next = next k
+follow (Err x) next = spoiled ∷ []
+
+module _ (ok : ℕ → Bool) (next : ℕ → List Event) where
+  abbrev followed : ℕ → List Event
+  followed k = sound (ok k) (next k)
+
+  follow_sound : (k : ℕ) → followed k ≡ follow (tested ok (pos k)) next
+  follow_sound k = go (ok k)
+    where
+      go : (b : Bool) → sound b (next k) ≡ follow (cond {A = Result ℕ Spoiled} b (Ok k) (Err (record {}))) next
+      go true = refl
+      go false = refl
+
+pub position_followed : (n : ℕ) (z : ℤ) (next : ℕ → List Event) → as_position n z next ≡ follow (position n z) next
+position_followed n (pos k) next = follow_sound (λ p. ltb p n) next k
+position_followed n (negsuc k) next = refl
+
+pub count_followed : (p left right : ℕ) (z : ℤ) (next : ℕ → List Event) → as_count p left right z next ≡ follow (count p left right z) next
+count_followed p left right (pos k) next = follow_sound (λ k. leb k p && leb k left && leb (p - k) right) next k
+count_followed p left right (negsuc k) next = refl
+
+-- a count that was read is within its bounds
+pub count_fits : (p left right : ℕ) (z : ℤ) (k : ℕ) → count p left right z ≡ Ok k → (k ≤ p) × (k ≤ left) × (p - k ≤ right)
+count_fits p left right (pos j) k e = go (leb j p) (leb j left) (leb (p - j) right) refl refl refl e
+  where
+    go : (a b c : Bool) → leb j p ≡ a → leb j left ≡ b → leb (p - j) right ≡ c → cond {A = Result ℕ Spoiled} (a && b && c) (Ok j) (Err (record {})) ≡ Ok k
+        → (k ≤ p) × (k ≤ left) × (p - k ≤ right)
+    go true true true a b c q = let d : j ≡ k = cc in rw (sym d) (leb-true j p a, leb-true j left b, leb-true (p - j) right c)
+    go false b c d e f q = absurd (cc)
+    go true false c d e f q = absurd (cc)
+    go true true false d e f q = absurd (cc)
+count_fits p left right (negsuc j) k e = absurd (cc)
+
+module _ (n : ℕ) (z : ℤ) (next : ℕ → List Event) where
+  pub is_position : (p : ℕ) → position n z ≡ Ok p → as_position n z next ≡ next p
+  is_position p e = position_followed n z next ∙ ap (λ (r : Result ℕ Spoiled). follow r next) e
+
+  pub no_position : (x : Spoiled) → position n z ≡ Err x → as_position n z next ≡ spoiled ∷ []
+  no_position x e = position_followed n z next ∙ ap (λ (r : Result ℕ Spoiled). follow r next) e
+
+-- ---- a word read as a whole number, and another one where it is negative
 abbrev pub or_else : ℕ → ℤ → ℕ
 or_else d (pos k) = k
 or_else d (negsuc k) = d
 
+pub or_else_is : (d : ℕ) (z : ℤ) → unwrap_or (natural z) d ≡ or_else d z
+or_else_is d (pos k) = refl
+or_else_is d (negsuc k) = refl
+
 pub or_none : (z : ℤ) → or_else 0 z ≡ to_nat z
 or_none (pos k) = refl
 or_none (negsuc k) = refl
-
--- what every part of a walk asks of an index: n and lower bound within limits, and n records
-pub record Ready (index : Index) (ws : List ℤ) : Type 0 where
-  pub small : index.n ≤ 65536
-  pub lower : lower_fits index.lower ≡ true
-  pub records : levels_at index.n ≤ length ws
-
--- ---- a word read as a position: p, or n and more where it is none
-module _ (n p : ℕ) (z : ℤ) (said : p ≡ or_else n z) (next : ℕ → List Event) where
-  read : as_position n z next ≡ sound (ltb p n) (next p)
-  read = go z said
-    where
-      go : (z : ℤ) → p ≡ or_else n z → as_position n z next ≡ sound (ltb p n) (next p)
-      go (pos k) e = rw e
-      go (negsuc k) e = rw (e, le-ltb n n (omega arith))
-
-  pub is_position : p < n → as_position n z next ≡ next p
-  is_position h = read ∙ ap (λ (b : Bool). sound b (next p)) (lt-ltb p n h)
-
-  pub no_position : n ≤ p → as_position n z next ≡ spoiled ∷ []
-  no_position h = read ∙ ap (λ (b : Bool). sound b (next p)) (le-ltb p n h)
-
--- ---- a word read as a count at slot p
-module _ (p left right k : ℕ) (z : ℤ) (said : k ≡ or_else (p + 1) z) (next : ℕ → List Event) where
-  tested : as_count p left right z next ≡ sound (leb k p && leb k left && leb (p - k) right) (next k)
-  tested = go z said
-    where
-      go : (z : ℤ) → k ≡ or_else (p + 1) z → as_count p left right z next ≡ sound (leb k p && leb k left && leb (p - k) right) (next k)
-      go (pos j) e = rw e
-      go (negsuc j) e = rw (e, lt-leb (p + 1) p (omega arith))
-
-  pub is_count : k ≤ p → k ≤ left → p - k ≤ right → as_count p left right z next ≡ next k
-  is_count a b c = tested ∙ rw (le-leb k p a, le-leb k left b, le-leb (p - k) right c)
-
-  pub count_above : p < k → as_count p left right z next ≡ spoiled ∷ []
-  count_above a = tested ∙ rw (lt-leb k p a)
-
-  pub count_beyond : k ≤ p → left < k → as_count p left right z next ≡ spoiled ∷ []
-  count_beyond a b = tested ∙ rw (le-leb k p a, lt-leb k left b)
-
-  pub count_leaves : k ≤ p → k ≤ left → right < p - k → as_count p left right z next ≡ spoiled ∷ []
-  count_leaves a b c = tested ∙ rw (le-leb k p a, le-leb k left b, lt-leb (p - k) right c)
 
 -- ---- three words read as the sizes of a block over m
 and_no : (a : Bool) → (a && false) ≡ false
@@ -95,9 +125,9 @@ sums_are m s ml mr e = go (leb 1 s) (leb (s + ml + mr) m) (leb m (s + ml + mr)) 
     go true false v a b c q = absurd (true≢false (sym q))
     go false u v a b c q = absurd (true≢false (sym q))
 
-natural : (d k : ℕ) (z : ℤ) → k ≡ or_else d z → (k ≡ d → ⊥) → z ≡ pos k
-natural d k (pos j) e h = ap pos (sym e)
-natural d k (negsuc j) e h = absurd (h e)
+said : (d k : ℕ) (z : ℤ) → k ≡ or_else d z → (k ≡ d → ⊥) → z ≡ pos k
+said d k (pos j) e h = ap pos (sym e)
+said d k (negsuc j) e h = absurd (h e)
 
 module _ (m s ml mr : ℕ) (x y z : ℤ) (es : s ≡ or_else 0 x) (el : ml ≡ or_else (m + 1) y) (er : mr ≡ or_else (m + 1) z) where
   plainly : sizes_fit m x y z ≡ sums m s ml mr
@@ -107,7 +137,7 @@ module _ (m s ml mr : ℕ) (x y z : ℤ) (es : s ≡ or_else 0 x) (el : ml ≡ o
   sizes_fit_is h e = plainly ∙ rw (le-leb 1 s (omega arith), le-leb (s + ml + mr) m (omega arith), le-leb m (s + ml + mr) (omega arith))
 
   pub sizes_are : 0 < s → s + ml + mr ≡ m → (x ≡ pos s) × (y ≡ pos ml) × (z ≡ pos mr)
-  sizes_are h e = (natural 0 s x es (λ q. omega arith), natural (m + 1) ml y el (λ q. omega arith), natural (m + 1) mr z er (λ q. omega arith))
+  sizes_are h e = (said 0 s x es (λ q. omega arith), said (m + 1) ml y el (λ q. omega arith), said (m + 1) mr z er (λ q. omega arith))
 
   pub sizes_none : s ≡ 0 → sizes_fit m x y z ≡ false
   sizes_none h = plainly ∙ rw (lt-leb 1 s (omega arith))
@@ -133,46 +163,13 @@ sizes_told m x y z e =
     let er : to_nat z ≡ mr = ap to_nat r.2 in
     (omega (arith, q.0), omega (arith, q.1))
 
--- ---- a record's coordinates by number
-abbrev pub coordinate : ℕ → Segment → ℤ
-coordinate zero s = s.x1
-coordinate (suc zero) s = s.y1
-coordinate (suc (suc zero)) s = s.x2
-coordinate (suc (suc (suc j))) s = s.y2
-
-pub coordinate_word : (ws : List ℤ) (p j : ℕ) → j < 4 → word ws (records_at + record_words * p + j) ≡ coordinate j (record_at ws p)
-coordinate_word ws p zero h = ap (λ (i : ℕ). word ws i) (omega arith)
-coordinate_word ws p (suc zero) h = refl
-coordinate_word ws p (suc (suc zero)) h = refl
-coordinate_word ws p (suc (suc (suc zero))) h = refl
-coordinate_word ws p (suc (suc (suc (suc j)))) h = absurd (omega arith)
-
--- a test of a record's word, made of an edge as the machine holds it
-module _ (ws : List ℤ) (p j at : ℕ) (e e' : ℤ) (r : Bool) (h : j < 4) (place : at ≡ records_at + record_words * p + j) (edge : e' ≡ e) where
-  pub reaches_is : r ≡ le_z e' (word ws at) → r ≡ le_z e (coordinate j (record_at ws p))
-  reaches_is q = q ∙ ap₂ le_z edge (ap (word ws) place ∙ coordinate_word ws p j h)
-
-  pub keeps_is : r ≡ le_z (word ws at) e' → r ≡ le_z (coordinate j (record_at ws p)) e
-  keeps_is q = q ∙ ap₂ le_z (ap (word ws) place ∙ coordinate_word ws p j h) edge
-
 -- ---- orders of whole numbers by one test
 pub le_not : (a b : ℤ) → le_z a b ≡ not (lt_z b a)
-le_not (pos a) (pos b) = go (leb a b) refl
+le_not a b = go (le_z a b) (lt_z b a) (lt_z_not b a)
   where
-    go : (t : Bool) → leb a b ≡ t → leb a b ≡ not (ltb b a)
-    go true e = e ∙ sym (ap not (le-ltb b a (leb-true a b e)))
-    go false e = e ∙ sym (ap not (lt-ltb b a (leb-false a b e)))
-le_not (pos a) (negsuc b) = refl
-le_not (negsuc a) (pos b) = refl
-le_not (negsuc a) (negsuc b) = go (leb b a) refl
-  where
-    go : (t : Bool) → leb b a ≡ t → leb b a ≡ not (ltb a b)
-    go true e = e ∙ sym (ap not (le-ltb a b (leb-true b a e)))
-    go false e = e ∙ sym (ap not (lt-ltb a b (leb-false b a e)))
-
-not_not : (b : Bool) → not (not b) ≡ b
-not_not true = refl
-not_not false = refl
+    go : (x y : Bool) → y ≡ not x → x ≡ not y
+    go true y e = sym (ap not e)
+    go false y e = sym (ap not e)
 
 pub lt_not : (a b : ℤ) → lt_z a b ≡ not (le_z b a)
-lt_not a b = sym (ap not (le_not b a) ∙ not_not (lt_z a b))
+lt_not a b = lt_z_not a b

@@ -1,48 +1,50 @@
--- What the code keeps of a walk, a tally and the number cells, and what a list of `paper`'s events makes of it: `after`.
--- A proof cites the laws `after_..` and opens nothing.
-use Rattle.std.specs.Prelude.{◌≡◌, Bool, cond, ℕ, zero, suc, ◌+◌, ◌≤◌, ◌<◌, length, eqb, ℤ}
-use Rattle.std.proofs.Math.Path.{refl, ap}
-use Rattle.std.proofs.Common.{sym, ◌∙◌, arith, lt-ltb, le-ltb, ltb-true, eq-eqb, ne_eqb}
-use Rattle.std.proofs.Math.Bool.{true, false}
-use mathlib.Core.List.{List, [], ◌∷◌, ◌++◌}
-use Rattle.std.proofs.Math.ListN.{drop, set}
+-- What the code keeps of a walk, and what a list of `paper`'s events makes of it: `after`. A walk that goes on has a tally, one that read a spoiled word is an Err.
+-- A proof cites the laws `after_..` and `along_..` and opens nothing.
+use Rattle.std.specs.Prelude.{◌≡◌, refl, Bool, true, false, cond, List, [], ◌∷◌, ◌++◌, ℕ, ◌+◌, ◌≤◌, ◌<◌, ltb, length, set, drop, ℤ, Result, Ok, Err, IfOk}
+use Rattle.std.proofs.Common.{sym, ap, ◌∙◌, arith, lt-ltb, le-ltb, ltb-true}
+use Rattle.std.proofs.lemmas.Result.{IfOk-weaker}
 use Rattle.std.proofs.Math.Seq.{set_out, drop-set-lt}
-use Rattle.std.proofs.Math.Dec.{ltb}
-use Rattle.std.proofs.lemmas.Bool.{eqb-false}
 use Rattle.paper.specs.Descriptor.{number_of}
-use Rattle.paper.specs.Walk.{Kind, Event, visit, due, spoiled, when}
+use Rattle.paper.specs.Walk.{Kind, Event, visit, due, spoiled}
 use Rattle.tally.specs.declared.Tally.{Tally}
+use Rattle.tally.specs.declared.Spoiled.{Spoiled}
 
+-- what a walk gives, and the number cells
 abbrev pub State : Type 0
-State = Tally × List ℤ
+State = Result Tally Spoiled × List ℤ
 
 abbrev pub seen : Tally → Tally
-seen t = record { stopped = t.stopped; listed = t.listed; visits = t.visits + 1 }
-
-abbrev pub spoilt : Tally → Tally
-spoilt t = record { stopped = 1; listed = t.listed; visits = t.visits }
+seen t = record { listed = t.listed; visits = t.visits + 1 }
 
 abbrev pub counted : Tally → Tally
-counted t = record { stopped = t.stopped; listed = t.listed + 1; visits = t.visits }
+counted t = record { listed = t.listed + 1; visits = t.visits }
+
+abbrev pub spoilt : Result Tally Spoiled
+spoilt = Err (record {})
 
 -- the number of p is due; past the end of the cells it is counted and not written
-unfoldable pub listing : ℕ → ℤ → ℕ → State → State
-listing n first p s =
-    cond (ltb s.0.listed n) (counted s.0, set s.1 s.0.listed (number_of first p)) (spoilt s.0, s.1)
+unfoldable pub listing : ℕ → ℤ → ℕ → Tally → List ℤ → State
+listing n first p t cells = cond (ltb t.listed n) (Ok (counted t), set cells t.listed (number_of first p)) (spoilt, cells)
 
-unfoldable pub does : ℕ → ℤ → Event → State → State
-does n first (visit k i) s = (seen s.0, s.1)
-does n first (due p) s = listing n first p s
-does n first spoiled s = (spoilt s.0, s.1)
+unfoldable pub does : ℕ → ℤ → Event → Tally → List ℤ → State
+does n first (visit k i) t cells = (Ok (seen t), cells)
+does n first (due p) t cells = listing n first p t cells
+does n first spoiled t cells = (spoilt, cells)
 
--- what comes of events; nothing once a spoiled word has been read
+-- nothing is done once a spoiled word has been read
+unfoldable pub onward : ℕ → ℤ → Event → Result Tally Spoiled → List ℤ → State
+onward n first e (Ok t) cells = does n first e t cells
+onward n first e (Err x) cells = (Err x, cells)
+
+-- what comes of events
 unfoldable pub after : ℕ → ℤ → List Event → State → State
 after n first [] s = s
-after n first (e ∷ es) s = after n first es (cond (eqb s.0.stopped 0) (does n first e s) s)
+after n first (e ∷ es) s = after n first es (onward n first e s.0 s.1)
 
-positive : (k : ℕ) → (k ≡ 0 → ⊥) → 0 < k
-positive zero h = absurd (h refl)
-positive (suc k) h = omega arith
+-- a walk along some events, from a tally and the cells, with at most so many visits
+pub record Along (n : ℕ) (first : ℤ) (es : List Event) (most : ℕ) (t : Tally) (cells : List ℤ) (r : Result Tally Spoiled) (new : List ℤ) : Type 0 where
+  pub came : (r, new) ≡ after n first es (Ok t, cells)
+  pub visits : IfOk r (λ u. u.visits ≤ t.visits + most)
 
 module _ (n : ℕ) (first : ℤ) where
   pub after_end : (s : State) → after n first [] s ≡ s
@@ -55,80 +57,81 @@ module _ (n : ℕ) (first : ℤ) where
   after_append (e ∷ a) b s = after_append a b _
 
   -- once a spoiled word has been read
-  pub after_stopped : (es : List Event) (s : State) → 0 < s.0.stopped → after n first es s ≡ s
-  unfolding after
-  after_stopped [] s h = refl
-  after_stopped (e ∷ es) s h =
-      ap (λ (b : Bool). after n first es (cond b (does n first e s) s)) (ne_eqb s.0.stopped 0 (λ q. omega arith)) ∙ after_stopped es s h
+  pub after_stopped : (es : List Event) (x : Spoiled) (cells : List ℤ) → after n first es (Err x, cells) ≡ (Err x, cells)
+  unfolding after onward
+  after_stopped [] x cells = refl
+  after_stopped (e ∷ es) x cells = after_stopped es x cells
 
-  -- a walk that goes on only where none has been read
-  pub after_going : (es : List Event) (s : State) → after n first es s ≡ after n first (when (eqb s.0.stopped 0) es) s
-  after_going es s = go (eqb s.0.stopped 0) refl
-    where
-      go : (b : Bool) → eqb s.0.stopped 0 ≡ b → after n first es s ≡ after n first (when b es) s
-      go true e = refl
-      go false e = let h : 0 < s.0.stopped = positive s.0.stopped (eqb-false s.0.stopped 0 e) in after_stopped es s h ∙ sym (after_end s)
+  module _ (t : Tally) (cells : List ℤ) where
+    pub after_visit : (k : Kind) (i : ℕ) (es : List Event) → after n first (visit k i ∷ es) (Ok t, cells) ≡ after n first es (Ok (seen t), cells)
+    unfolding after onward does
+    after_visit k i es = refl
 
-  module _ (s : State) (going : s.0.stopped ≡ 0) where
-    once : (e : Event) (es : List Event) → after n first (e ∷ es) s ≡ after n first es (does n first e s)
-    unfolding after
-    once e es = ap (λ (b : Bool). after n first es (cond b (does n first e s) s)) (eq-eqb s.0.stopped 0 going)
+    pub after_due : (p : ℕ) (es : List Event) → after n first (due p ∷ es) (Ok t, cells) ≡ after n first es (listing n first p t cells)
+    unfolding after onward does
+    after_due p es = refl
 
-    pub after_visit : (k : Kind) (i : ℕ) (es : List Event) → after n first (visit k i ∷ es) s ≡ after n first es (seen s.0, s.1)
-    unfolding does
-    after_visit k i es = once (visit k i) es
+    pub after_spoiled : after n first (spoiled ∷ []) (Ok t, cells) ≡ (spoilt, cells)
+    unfolding after onward does
+    after_spoiled = refl
 
-    pub after_due : (p : ℕ) (es : List Event) → after n first (due p ∷ es) s ≡ after n first es (listing n first p s)
-    unfolding does
-    after_due p es = once (due p) es
+    -- ---- a number that is due
+    pub listing_full : (p : ℕ) → n ≤ t.listed → (spoilt, cells) ≡ listing n first p t cells
+    unfolding listing
+    listing_full p h = rw (le-ltb t.listed n h)
 
-    pub after_spoiled : after n first (spoiled ∷ []) s ≡ (spoilt s.0, s.1)
-    unfolding does after
-    after_spoiled = once spoiled []
+    pub listing_room : (p : ℕ) → t.listed < n → (Ok (counted t), set cells t.listed (number_of first p)) ≡ listing n first p t cells
+    unfolding listing
+    listing_room p h = rw (lt-ltb t.listed n h)
 
-  -- ---- a number that is due
-  pub listing_full : (p : ℕ) (s : State) → n ≤ s.0.listed → (spoilt s.0, s.1) ≡ listing n first p s
-  unfolding listing
-  listing_full p s h = rw (le-ltb s.0.listed n h)
+    pub listing_past : (p : ℕ) → t.listed < n → length cells ≤ t.listed → (Ok (counted t), cells) ≡ listing n first p t cells
+    unfolding listing
+    listing_past p h g = rw (lt-ltb t.listed n h, set_out cells t.listed (number_of first p) g)
 
-  pub listing_room : (p : ℕ) (s : State) → s.0.listed < n → (counted s.0, set s.1 s.0.listed (number_of first p)) ≡ listing n first p s
-  unfolding listing
-  listing_room p s h = rw (lt-ltb s.0.listed n h)
+    same : (u v : Tally) → ◌≡◌ {A = Result Tally Spoiled} (Ok u) (Ok v) → u.visits ≡ v.visits
+    same u v e = let q : u ≡ v = cc in ap (λ (x : Tally). x.visits) q
 
-  pub listing_past : (p : ℕ) (s : State) → s.0.listed < n → length s.1 ≤ s.0.listed → (counted s.0, s.1) ≡ listing n first p s
-  unfolding listing
-  listing_past p s h g = rw (lt-ltb s.0.listed n h, set_out s.1 s.0.listed (number_of first p) g)
+    apart : (u : Tally) → ◌≡◌ {A = Result Tally Spoiled} (Ok u) spoilt → ⊥
+    apart u e = cc
 
-  pub listing_visits : (p : ℕ) (s : State) → (listing n first p s).0.visits ≡ s.0.visits
-  unfolding listing
-  listing_visits p s = go (ltb s.0.listed n) (set s.1 s.0.listed (number_of first p))
-    where
-      go : (b : Bool) (c : List ℤ) → (cond {A = State} b (counted s.0, c) (spoilt s.0, s.1)).0.visits ≡ s.0.visits
-      go true c = refl
-      go false c = refl
+    pub listing_visits : (p : ℕ) (u : Tally) (new : List ℤ) → (Ok u, new) ≡ listing n first p t cells → u.visits ≡ t.visits
+    unfolding listing
+    listing_visits p u new = go (ltb t.listed n) (set cells t.listed (number_of first p))
+      where
+        go : (b : Bool) (c : List ℤ) → (Ok u, new) ≡ cond {A = State} b (Ok (counted t), c) (spoilt, cells) → u.visits ≡ t.visits
+        go true c e = same u (counted t) (ap (λ (s : State). s.0) e)
+        go false c e = absurd (apart u (ap (λ (s : State). s.0) e))
 
   -- ---- the cells from n on stay, whatever the events
-  does_past : (e : Event) (s : State) → drop n (does n first e s).1 ≡ drop n s.1
+  does_past : (e : Event) (t : Tally) (cells : List ℤ) → drop n (does n first e t cells).1 ≡ drop n cells
   unfolding does listing
-  does_past (visit k i) s = refl
-  does_past (due p) s = go (ltb s.0.listed n) refl
+  does_past (visit k i) t cells = refl
+  does_past (due p) t cells = go (ltb t.listed n) refl
     where
-      go : (t : Bool) → ltb s.0.listed n ≡ t
-          → drop n (cond {A = State} t (counted s.0, set s.1 s.0.listed (number_of first p)) (spoilt s.0, s.1)).1 ≡ drop n s.1
-      go true e = drop-set-lt n s.1 s.0.listed (number_of first p) (ltb-true s.0.listed n e)
+      go : (b : Bool) → ltb t.listed n ≡ b → drop n (cond {A = State} b (Ok (counted t), set cells t.listed (number_of first p)) (spoilt, cells)).1 ≡ drop n cells
+      go true e = drop-set-lt n cells t.listed (number_of first p) (ltb-true t.listed n e)
       go false e = refl
-  does_past spoiled s = refl
+  does_past spoiled t cells = refl
+
+  onward_past : (e : Event) (r : Result Tally Spoiled) (cells : List ℤ) → drop n (onward n first e r cells).1 ≡ drop n cells
+  unfolding onward
+  onward_past e (Ok t) cells = does_past e t cells
+  onward_past e (Err x) cells = refl
 
   pub after_past : (es : List Event) (s : State) → drop n (after n first es s).1 ≡ drop n s.1
   unfolding after
   after_past [] s = refl
-  after_past (e ∷ es) s = after_past es _ ∙ go (eqb s.0.stopped 0)
-    where
-      go : (b : Bool) → drop n (cond b (does n first e s) s).1 ≡ drop n s.1
-      go true = does_past e s
-      go false = refl
+  after_past (e ∷ es) s = after_past es _ ∙ onward_past e s.0 s.1
 
--- a walk along some events, with at most so many visits
-pub record Along (n : ℕ) (first : ℤ) (es : List Event) (most : ℕ) (s r : State) : Type 0 where
-  pub came : r ≡ after n first es s
-  pub visits : r.0.visits ≤ s.0.visits + most
+  -- ---- a walk, and then another by `?`
+  module _ (a b : List Event) (m k most : ℕ) (few : m + k ≤ most) (t : Tally) (cells mid : List ℤ) where
+    -- the first goes on: the second begins with its tally
+    pub along_then : (u : Tally) → Along n first a m t cells (Ok u) mid → (r : Result Tally Spoiled) (new : List ℤ) → Along n first b k u mid r new → Along n first (a ++ b) most t cells r new
+    along_then u one r new two = record {
+      came = two.came ∙ ap (after n first b) one.came ∙ sym (after_append a b (Ok t, cells));
+      visits = IfOk-weaker r (λ v. v.visits ≤ u.visits + k) (λ v. v.visits ≤ t.visits + most) (λ v h. omega (arith, one.visits)) two.visits;
+    }
+
+    -- the first read a spoiled word: the whole is cut there
+    pub along_cut : (x : Spoiled) → Along n first a m t cells (Err x) mid → Along n first (a ++ b) most t cells (Err x) mid
+    along_cut x one = record { came = sym (after_stopped b x mid) ∙ ap (after n first b) one.came ∙ sym (after_append a b (Ok t, cells)); visits = tt }

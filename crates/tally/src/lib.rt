@@ -1,126 +1,123 @@
 // What a walk over an index keeps while it goes, and how it reads words: each visit, each number listed and each word read goes through here.
-// The events of `paper` become what the code keeps by `after` (specs/State); a word is read as a whole number by `whole_at`, a record's by `coordinate_at`.
+// The events of `paper` become what the code keeps by `after` (specs/State); what a word that was read says is in specs/Reads.
 #![tactic(auto)]
 
-ghost use Rattle.std.specs.Prelude.{◌≡◌, true, ◌+◌, ◌*◌, ◌^◌, ◌<◌, ◌≤◌, length, pos, ◌+ℤ◌};
-ghost use Rattle.std.specs.Int.Signed.{le_z};
-ghost use Rattle.paper.specs.Limits.{lower_fits};
-ghost use Rattle.paper.specs.Words.{record_words, records_at, levels_at};
-ghost use Rattle.paper.specs.Walk.{word};
-ghost use Rattle.tally.specs.State.{seen, spoilt, listing};
-ghost use Rattle.tally.specs.Reads.{or_else};
+ghost use Rattle.std.specs.Prelude.{◌≡◌, ◌+◌, ◌^◌, ◌<◌, ◌≤◌, length, pos, ◌+ℤ◌, IfOk, IfSome};
+ghost use Rattle.paper.specs.Words.{levels_at};
+ghost use Rattle.paper.specs.Walk.{word, record_at};
+ghost use Rattle.axes.specs.Axes.{coordinate_of};
+ghost use Rattle.tally.specs.State.{seen, listing};
+ghost use Rattle.tally.specs.Reads.{Ready, natural, position};
 
-use whole::{at_most, cell};
+use axes::Word;
 
-// Whether a spoiled word has been read (0 until then), how many numbers are listed, how many visits there were.
-#[derive(Clone, Copy)]
+/// A word was read that no index has there, or more numbers are due than there are: the walk ends.
+#[derive(Clone, Copy, Debug, PartialEq, Eq)]
+pub struct Spoiled;
+
+/// How many numbers are listed so far, and how many visits there were.
+#[derive(Clone, Copy, Debug, Default, PartialEq, Eq)]
 pub struct Tally {
-    pub stopped: usize,
     pub listed: usize,
     pub visits: usize,
 }
 
-// What an index's header says of every number: how many there are, and the first.
+impl Tally {
+    /// One visit more.
+    pub fn seen(self) -> Tally
+        requires { self.visits + 1 < 2 ^ 64 }
+        ensures { result ≡ seen self }
+    {
+        Tally {
+            visits: self.visits + 1,
+            ..self
+        }
+    }
+
+    /// The number of a position is due: it is listed, in a cell if there is one; where n are listed, the walk is spoiled.
+    pub fn list(self, numbers: &mut [i32], index: Index, p: usize) -> Result<Tally, Spoiled>
+        requires { p < 65536 }
+        ensures { (result, numbers.new) ≡ listing index.entry.n index.entry.lower p self numbers.old }
+    {
+        let at = self.listed;
+        if index.n <= at {
+            return Err(Spoiled);
+        }
+        if at < numbers.len() {
+            numbers[at] = index.number(p);
+        }
+        Ok(Tally {
+            listed: at + 1,
+            ..self
+        })
+    }
+}
+
+/// The words of an index, whatever they are, and what its header says of every number: how many there are, and the first.
 #[derive(Clone, Copy)]
-pub struct Index {
+pub struct Index<'a> {
+    pub words: &'a [i32],
     pub n: usize,
     pub lower: i64,
+    pub ghost ready: { Ready words.now n lower },
 }
 
-// One visit more.
-pub fn see(tally: Tally) -> Tally
-    requires { tally.visits + 1 < 2 ^ 64 }
-    ensures { result ≡ seen tally }
-{
-    Tally {
-        stopped: tally.stopped,
-        listed: tally.listed,
-        visits: tally.visits + 1,
+impl Index<'_> {
+    // The number of a position, in a cell.
+    fn number(self, p: usize) -> i32
+        requires { p < 65536 }
+        ensures { result ≡ self.entry.lower +ℤ pos p }
+    {
+        (self.lower + p as i64) as i32
+    }
+
+    /// A word.
+    pub fn word_at(self, at: usize) -> i64
+        requires { at < length self.words.now }
+        ensures { result ≡ word self.entry.words.now at }
+    {
+        i64::from(self.words[at])
+    }
+
+    /// The whole number that a word says; None where it is negative.
+    pub fn whole_at(self, at: usize) -> Option<usize>
+        requires { at < length self.words.now }
+        ensures value { result ≡ natural (word self.entry.words.now at) }
+        ensures small { IfSome result (λ k. k < 2 ^ 31) }
+    {
+        // Kept: `usize::try_from` is five instructions more a word, a tenth of all that a walk runs: each visit reads one.
+        let said = self.words[at];
+        if said < 0 {
+            return None;
+        }
+        Some(said as usize)
+    }
+
+    /// The position that a word says; spoiled where there is no such position.
+    pub fn position_at(self, at: usize) -> Result<usize, Spoiled>
+        requires { at < length self.words.now }
+        ensures value { result ≡ position self.entry.n (word self.entry.words.now at) }
+        ensures inside { IfOk result (λ p. p < self.entry.n) }
+    {
+        match self.whole_at(at) {
+            Some(p) if p < self.n => Ok(p),
+            _ => Err(Spoiled),
+        }
+    }
+
+    /// A word of the record of a position.
+    pub fn coordinate(self, p: usize, word: Word) -> i64
+        requires { p < self.n }
+        ensures { result ≡ coordinate_of word (record_at self.entry.words.now p) }
+    {
+        self.word_at(4 + 4 * p + word.place())
     }
 }
 
-// A spoiled word has been read.
-pub fn stop(tally: Tally) -> Tally
-    ensures { result ≡ spoilt tally }
-{
-    Tally {
-        stopped: 1,
-        listed: tally.listed,
-        visits: tally.visits,
-    }
-}
-
-// The number of a position, in a cell.
-fn number(lower: i64, p: usize) -> i32
-    requires lower_value { lower_fits lower ≡ true }
-    requires p_bound { p < 65536 }
-    ensures { result ≡ lower +ℤ pos p }
-{
-    (lower + p as i64) as i32
-}
-
-// The number of a position is due: it is listed, in a cell if there is one; where n are listed, the walk is spoiled.
-pub fn list(numbers: &mut [i32], index: Index, tally: Tally, p: usize) -> Tally
-    requires lower_value { lower_fits index.lower ≡ true }
-    requires p_bound { p < 65536 }
-    ensures { (result, numbers.new) ≡ listing index.n index.lower p (tally, numbers.old) }
-{
-    let at = tally.listed;
-    if index.n <= at {
-        return stop(tally);
-    }
-    if at < numbers.len() {
-        let lower = index.lower;
-        numbers[at] = number(lower, p);
-    }
-    Tally {
-        stopped: tally.stopped,
-        listed: at + 1,
-        visits: tally.visits,
-    }
-}
-
-// The whole number that a word says, or another one where the word is negative.
-pub fn whole_at(words: &[i32], at: usize, otherwise: usize) -> usize
-    requires { at < length words.now }
-    ensures value { result ≡ or_else otherwise (word words.now at) }
-    ensures small { result < 2147483648 + otherwise }
-{
-    let said = words[at];
-    if said < 0 {
-        return otherwise;
-    }
-    said as usize
-}
-
-// Where coordinate j (0 to 3, for x1 y1 x2 y2) of the record of position p stands.
-pub fn coordinate_at(p: usize, j: usize) -> usize
-    requires { (p < 65536) × (j < 4) }
-    ensures { result ≡ records_at + record_words * p + j }
-{
-    4 + 4 * p + j
-}
-
-// Where level 0 begins: after the records.
+/// Where level 0 begins: after the records.
 pub fn levels_at(n: usize) -> usize
     requires { n ≤ 65536 }
     ensures { result ≡ levels_at n }
 {
     4 + 4 * n
-}
-
-// Whether a word is at least an edge.
-pub fn reaches(words: &[i32], at: usize, edge: i64) -> bool
-    requires { at < length words.now }
-    ensures { result ≡ le_z edge (word words.now at) }
-{
-    at_most(edge, cell(words, at))
-}
-
-// Whether a word is at most an edge.
-pub fn keeps(words: &[i32], at: usize, edge: i64) -> bool
-    requires { at < length words.now }
-    ensures { result ≡ le_z (word words.now at) edge }
-{
-    at_most(cell(words, at), edge)
 }

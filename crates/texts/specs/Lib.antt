@@ -1,4 +1,4 @@
--- Laws of what is printed: digits, and text written at a place of a buffer.
+-- Laws of what is printed: digits, and text written after what an output holds.
 pub mod Digits
 pub mod Written
 pub mod Signs

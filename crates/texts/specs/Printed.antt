@@ -1,12 +1,13 @@
 -- A line of numbers, number by number, and the whole of an A line and of an R line, part by part.
-use Rattle.std.specs.Prelude.{◌≡◌, refl, List, [], ◌∷◌, ◌++◌, ℕ, ◌+◌, ◌≤◌, ◌<◌, min, leb, ℤ, pos, length, take, get_or, set}
-use Rattle.std.proofs.Common.{sym, ap, ◌∙◌, append_assoc, append-nil, arith, add-one, leb-true, leb-false, length-append, length-set, take-suc, take_all}
+use Rattle.std.specs.Prelude.{◌≡◌, refl, List, [], ◌∷◌, ◌++◌, ℕ, ◌+◌, ◌≤◌, ◌<◌, min, leb, ℤ, pos, length, take, get_or}
+use Rattle.std.proofs.Common.{sym, ap, ◌∙◌, append_assoc, append-nil, arith, add-one, leb-true, leb-false, take-suc, take_all}
 use Rattle.std.specs.Int.Signed.{mag}
 use Rattle.lists.specs.Tests.{by_test}
 use Rattle.lists.specs.Plain.{to_nat}
 use Rattle.paper.specs.Results.{Result}
 use Rattle.paper.specs.Lines.{tab, line_feed, letter_A, letter_R, decimal, tabbed, printed}
-use Rattle.texts.specs.Written.{Written, written_length, written_first, written_one, written_join}
+use Rattle.texts.specs.declared.Output.{Output}
+use Rattle.texts.specs.Written.{Wrote, wrote_join}
 use Rattle.texts.specs.Digits.{digits_of, decimal_le}
 
 -- each number after a tab
@@ -47,25 +48,11 @@ take_least count l =
     ap (λ k. take k l) e ∙ take_all (length l) l (omega arith) ∙ sym (take_all count l h))
 
 -- ---- the whole of an A line and of an R line, part by part
-pub answer_written : (r : Result) {at : ℕ} {out : List ℕ} {i j end : ℕ} {out₁ out₂ out₃ : List ℕ} → at < length out → i ≤ length out → j ≤ length out → end ≤ length out → Written (tab ∷ decimal r.0.count) (at + 1) (set out at letter_A) i out₁ → length out₁ ≡ length out → Written (tab ∷ decimal r.0.visits) i out₁ j out₂ → Written (tabbed (take (to_nat r.0.count) r.1)) j out₂ end out₃ → Written (printed r) at out end out₃
-unfolding tabbed
-answer_written r {at} {out} {i} {j} {end} {out₁} {out₂} {out₃} h hi hj he a l b c =
-    let s = length-set out at letter_A in
-    let n = length-append (tab ∷ decimal r.0.visits) (tabbed (take (to_nat r.0.count) r.1)) in
-    written_first h
-    (written_join
-    (omega (arith, s, n, a.ends, b.ends, c.ends))
-    a
-    (written_join (omega (arith, a.ends, b.ends, c.ends)) b c))
+module _ {a b c d e : Output} where
+  pub wrote_answer : (r : Result) → Wrote (letter_A ∷ []) a b → Wrote (tab ∷ decimal r.0.count) b c → Wrote (tab ∷ decimal r.0.visits) c d → Wrote (tabbed (take (to_nat r.0.count) r.1)) d e → Wrote (printed r) a e
+  unfolding tabbed
+  wrote_answer r letter count visits numbers = wrote_join letter (wrote_join count (wrote_join visits numbers))
 
-pub fault_written : (m n : ℕ) {at : ℕ} {out : List ℕ} {i j : ℕ} {out₁ out₂ : List ℕ} → at + (4 + (length (digits_of m) + length (digits_of n))) ≤ length out → Written (tab ∷ digits_of m) (at + 1) (set out at letter_R) i out₁ → Written (tab ∷ digits_of n) i out₁ j out₂ → Written (letter_R ∷ tabbed (pos m ∷ pos n ∷ [])) at out (j + 1) (set out₂ j line_feed)
-unfolding tabbed
-fault_written m n {at} {out} {i} {j} {out₁} {out₂} h a b =
-    let s = length-set out at letter_R in
-    let l = written_length (omega (arith, s)) a in
-    let k = written_length (omega (arith, s, l, a.ends)) b in
-    written_first (omega arith)
-    (written_join
-    (omega (arith, s, length-append (tab ∷ digits_of n) (line_feed ∷ [])))
-    a
-    (written_join (omega (arith, s, l, a.ends)) b (written_one (omega (arith, s, l, k, a.ends, b.ends)))))
+  pub wrote_fault : (m n : ℕ) → Wrote (letter_R ∷ []) a b → Wrote (tab ∷ digits_of m) b c → Wrote (tab ∷ digits_of n) c d → Wrote (line_feed ∷ []) d e → Wrote (letter_R ∷ tabbed (pos m ∷ pos n ∷ [])) a e
+  unfolding tabbed
+  wrote_fault m n letter number line end = wrote_join letter (wrote_join number (wrote_join line end))

@@ -1,11 +1,21 @@
--- Text written at a place of a buffer, and the place after it; two texts one after the other are their join.
-use Rattle.std.specs.Prelude.{◌≡◌, refl, List, [], ◌∷◌, ◌++◌, ℕ, ◌+◌, ◌≤◌, ◌<◌, length, set}
-use Rattle.std.proofs.Common.{sym, ap, ap₂, ◌∙◌, arith, add-one, length-append}
-use Rattle.lists.specs.Parts.{put, put_one, put_join, put_swap, put_step, length_put}
+-- Text put after what an output holds; two texts one after the other are their join.
+use Rattle.std.specs.Prelude.{◌≡◌, refl, List, [], ◌∷◌, ◌++◌, ℕ, ◌+◌, ◌-◌, ◌≤◌, ◌<◌, length, set}
+use Rattle.std.proofs.Common.{sym, ap, ap₂, ◌∙◌, arith, length-append}
+use Rattle.lists.specs.Parts.{put, put_nil, put_one, put_join, put_swap, length_put, lent}
+use borrow.Rule.Slice.PartMut.{put_mid}
+use Rattle.texts.specs.declared.Output.{Output}
 
-pub record Written (text : List ℕ) (at : ℕ) (out : List ℕ) (end : ℕ) (after : List ℕ) : Type 0 where
-  pub ends : end ≡ at + length text
-  pub wrote : after ≡ put at text out
+-- so many bytes more have room
+abbrev pub Room : ℕ → Output → Type 0
+Room n output = output.len + n ≤ length output.bytes.now
+
+-- the text stands after what the output held, and the other bytes are as they were
+pub record Wrote (text : List ℕ) (before after : Output) : Type 0 where
+  pub fits : before.len + length text ≤ length before.bytes.now
+  pub ends : after.len ≡ before.len + length text
+  pub wrote : after.bytes.now ≡ put before.len text before.bytes.now
+  -- the bytes are those that were lent
+  pub lent : after.bytes.ghost_name ≡ before.bytes.ghost_name
 
 -- one byte more at the end of what is still due
 pub put_last : (a : ℕ) (v : List ℕ) (x : ℕ) (s : List ℕ) → a + length v < length s → put a (v ++ (x ∷ [])) s ≡ put a v (set s (a + length v) x)
@@ -14,23 +24,32 @@ put_last a v x s h =
     ∙ put_swap a (a + length v) v (x ∷ []) s (omega arith) (omega arith)
     ∙ ap (put a v) (sym (put_one (a + length v) x s h))
 
--- one byte, and then more
-pub written_first : {x : ℕ} {v : List ℕ} {at : ℕ} {out : List ℕ} {end : ℕ} {after : List ℕ} → at < length out → Written v (at + 1) (set out at x) end after → Written (x ∷ v) at out end after
-written_first {x} {v} {at} {out} {end} {after} h w = record {
-  ends = omega (arith, w.ends);
-  wrote = w.wrote ∙ ap (λ k. put k v (set out at x)) (add-one at) ∙ sym (put_step at x v out h);
-}
-
--- one byte
-pub written_one : {x at : ℕ} {out : List ℕ} → at < length out → Written (x ∷ []) at out (at + 1) (set out at x)
-written_one {x} {at} {out} h = record { ends = refl; wrote = put_one at x out h }
+-- nothing
+pub wrote_none : {o : Output} → o.len ≤ length o.bytes.now → Wrote [] o o
+wrote_none {o} h = record { fits = omega arith; ends = omega arith; wrote = sym (put_nil o.len o.bytes.now); lent = refl }
 
 -- one text after the other
-pub written_join : {v w : List ℕ} {at : ℕ} {out : List ℕ} {mid : ℕ} {between : List ℕ} {end : ℕ} {after : List ℕ} → at + (length v + length w) ≤ length out → Written v at out mid between → Written w mid between end after → Written (v ++ w) at out end after
-written_join {v} {w} {at} {out} h a b = record {
-  ends = omega (arith, a.ends, b.ends, length-append v w);
-  wrote = b.wrote ∙ ap₂ (λ k l. put k w l) a.ends a.wrote ∙ put_join at v w out h;
-}
+pub wrote_join : {v w : List ℕ} {a b c : Output} → Wrote v a b → Wrote w b c → Wrote (v ++ w) a c
+wrote_join {v} {w} {a} {b} {c} p q =
+    let l : length b.bytes.now ≡ length a.bytes.now = ap length p.wrote ∙ length_put a.len v a.bytes.now p.fits in
+    let k = length-append v w in
+    let h : a.len + (length v + length w) ≤ length a.bytes.now = omega (arith, p.ends, q.fits, l) in
+    record {
+      fits = omega (arith, h, k);
+      ends = omega (arith, p.ends, q.ends, k);
+      wrote = q.wrote ∙ ap₂ (λ i s. put i w s) p.ends p.wrote ∙ put_join a.len v w a.bytes.now h;
+      lent = q.lent ∙ p.lent;
+    }
 
-pub written_length : {v : List ℕ} {at : ℕ} {out : List ℕ} {end : ℕ} {after : List ℕ} → at + length v ≤ length out → Written v at out end after → length after ≡ length out
-written_length {v} {at} {out} h w = ap length w.wrote ∙ length_put at v out h
+-- the output's length, and that there is room for what is written
+pub wrote_length : {v : List ℕ} {a b : Output} → Wrote v a b → length b.bytes.now ≡ length a.bytes.now
+wrote_length {v} {a} p = ap length p.wrote ∙ length_put a.len v a.bytes.now p.fits
+
+pub wrote_within : {v : List ℕ} {a b : Output} → Wrote v a b → b.len ≤ length b.bytes.now
+wrote_within {v} {a} p = omega (arith, p.ends, p.fits, wrote_length p)
+
+-- a part that was lent for a text, and has come back with it
+pub wrote_part : (at : ℕ) (out : List ℕ) {text part : List ℕ} → part ≡ text → put_mid at ((at + length text) - at) out part ≡ put at text out
+wrote_part at out {text} {part} e =
+    let n : (at + length text) - at ≡ length text = omega arith in
+    rw (e, n) (lent at (length text) out text refl)

@@ -1,14 +1,11 @@
 // The text of the program's A and R lines, written into a lent buffer: exactly the bytes of `paper`'s `printed`, `tabbed` and `decimal`.
-// Each function writes from a place on and returns the place after; the buffer's other bytes keep their values.
 #![tactic(auto)]
 
-ghost use Rattle.std.specs.Prelude.{◌≡◌, true, List, [], ◌∷◌, ℕ, ◌+◌, ◌*◌, ◌≤◌, ◌<◌, min, ℤ, pos, negsuc, length, take};
-ghost use Rattle.std.specs.Int.Signed.{lt_z};
+ghost use Rattle.std.specs.Prelude.{◌≡◌, [], ◌∷◌, ◌+◌, ◌-◌, ◌*◌, ◌≤◌, ◌<◌, pos, length, take};
 ghost use Rattle.lists.specs.Plain.{to_nat};
-ghost use Rattle.lists.specs.Parts.{put};
 ghost use Rattle.paper.specs.Lines.{tab, letter_R, decimal, tabbed, printed};
 ghost use Rattle.texts.specs.Digits.{digits_of};
-ghost use Rattle.texts.specs.Written.{Written};
+ghost use Rattle.texts.specs.Written.{Room, Wrote};
 
 use paper::Reply;
 
@@ -16,138 +13,165 @@ fn digit(x: usize) -> u8
     requires { x < 10 }
     ensures { result ≡ 48 + x }
 {
-    (48 + x) as u8
+    b'0' + x as u8
 }
 
-// How many digits n has.
+/// How many digits n has.
+// Kept: it counts by dividing, since std's `ilog10` speaks of powers and not of digits: no plainer, with a law between them.
 pub fn width(n: usize) -> usize
     ensures { result ≡ length (digits_of n) }
 {
     let mut v = n;
     let mut k = 1;
     while 10 <= v {
-        v = v / 10;
+        v /= 10;
         k += 1;
     }
     k
 }
 
-// The digits of n, the last one first.
-fn put_digits(out: &mut [u8], at: usize, n: usize) -> usize
-    requires { at + length (digits_of n) ≤ length out.old }
-    ensures { Written (digits_of n) at out.old result out.new }
+// The digits of n into as many bytes, the last one first.
+// Kept: no `write!`, whose text is not stated in the words of `paper`'s `decimal`, and whose Result would have to be passed up though nothing can fail: no plainer.
+fn put_digits(bytes: &mut [u8], n: usize)
+    requires { length bytes.old ≡ length (digits_of n) }
+    ensures { bytes.new ≡ digits_of n }
 {
-    let end = at + width(n);
-    let mut i = end;
     let mut v = n;
-    while 10 <= v {
-        i -= 1;
-        out[i] = digit(v % 10);
-        v = v / 10;
+    for i in (0..bytes.len()).rev() {
+        bytes[i] = digit(v % 10);
+        v /= 10;
     }
-    out[at] = digit(v);
-    end
 }
 
-// How far below -1 a negative number lies: this has a value for the least of all, where 0 - z has none.
-pub fn below(z: i64) -> usize
-    requires { lt_z z (pos 0) ≡ true }
-    ensures { (z ≡ negsuc result) × (result < 9223372036854775808) }
-{
-    (-1 - z) as usize
-}
-
-// A number, with its minus.
-pub fn put_number(out: &mut [u8], at: usize, z: i64) -> usize
-    requires { at + length (decimal z) ≤ length out.old }
-    ensures { Written (decimal z) at out.old result out.new }
-{
-    if whole::less(z, 0) {
-        let n = below(z) + 1;
-        out[at] = b'-';
-        return put_digits(out, at + 1, n);
-    }
-    let n = whole::index(z);
-    put_digits(out, at, n)
-}
-
-// A tab and a number.
-fn put_field(out: &mut [u8], at: usize, z: i64) -> usize
-    requires { at + length (tab ∷ decimal z) ≤ length out.old }
-    ensures { Written (tab ∷ decimal z) at out.old result out.new }
-{
-    out[at] = b'\t';
-    put_number(out, at + 1, z)
-}
-
-// A tab and a count.
-fn put_count(out: &mut [u8], at: usize, n: usize) -> usize
-    requires { at + length (tab ∷ digits_of n) ≤ length out.old }
-    ensures { Written (tab ∷ digits_of n) at out.old result out.new }
-{
-    out[at] = b'\t';
-    put_digits(out, at + 1, n)
-}
-
-// As many as a number says; a negative one says none.
+/// As many as a number says; a negative one says none.
 pub fn size(z: i64) -> usize
     ensures { result ≡ to_nat z }
 {
-    if whole::less(z, 0) {
-        return 0;
+    z.max(0) as usize
+}
+
+/// Bytes lent for a text, and how many of them hold it so far.
+#[derive(Drop)]
+pub struct Output<'a> {
+    pub bytes: &'a mut [u8],
+    pub len: usize,
+}
+
+impl Output<'_> {
+    /// How many bytes more there is room for.
+    pub fn room(&self) -> usize
+        ensures { result ≡ length self.now.bytes.now - self.now.len }
+    {
+        self.bytes.len().saturating_sub(self.len)
     }
-    whole::index(z)
-}
 
-fn least(a: usize, b: usize) -> usize
-    ensures { result ≡ min a b }
-{
-    if a < b {
-        return a;
+    /// The text so far.
+    pub fn text(&self) -> &[u8]
+        requires { Room 0 self.now }
+        ensures { result.now ≡ take self.now.len self.now.bytes.now }
+    {
+        &self.bytes[..self.len]
     }
-    b
-}
 
-// The first of some numbers, each after a tab, and a line feed.
-pub fn put_tabbed(out: &mut [u8], at: usize, numbers: &[i32], count: usize) -> usize
-    requires { at + 21 * length numbers.now + 1 ≤ length out.old }
-    ensures within { result ≤ length out.old }
-    ensures written { Written (tabbed (take count numbers.now)) at out.old result out.new }
-{
-    let n = least(count, numbers.len());
-    let mut k = at;
-    let mut i = 0;
-    while i < n {
-        let z = whole::cell(numbers, i);
-        k = put_field(out, k, z);
-        i += 1;
+    /// No text again, in the same bytes.
+    pub fn clear(&mut self)
+        ensures { self.new ≡ record self.old { len = 0 } }
+    {
+        self.len = 0;
     }
-    out[k] = b'\n';
-    k + 1
-}
 
-// A, count, visits, numbers.
-pub fn put_answer(out: &mut [u8], at: usize, reply: Reply, numbers: &[i32]) -> usize
-    requires { at + 21 * length numbers.now + 44 ≤ length out.old }
-    ensures within { result ≤ length out.old }
-    ensures written { Written (printed (reply, numbers.now)) at out.old result out.new }
-{
-    let count = size(reply.count);
-    out[at] = b'A';
-    let i = put_field(out, at + 1, reply.count);
-    let j = put_field(out, i, reply.visits);
-    put_tabbed(out, j, numbers, count)
-}
+    /// One byte more.
+    pub fn push(&mut self, byte: u8)
+        requires { Room 1 self.old }
+        ensures { Wrote (byte ∷ []) self.old self.new }
+    {
+        self.bytes[self.len] = byte;
+        self.len += 1;
+    }
 
-// R, answer number, line number.
-pub fn put_fault(out: &mut [u8], at: usize, number: usize, line: usize) -> usize
-    requires { at + 44 ≤ length out.old }
-    ensures within { result ≤ length out.old }
-    ensures written { Written (letter_R ∷ tabbed (pos number ∷ pos line ∷ [])) at out.old result out.new }
-{
-    out[at] = b'R';
-    let i = put_count(out, at + 1, number);
-    let j = put_count(out, i, line);
-    out[j] = b'\n';
-    j + 1
+    pub fn push_all(&mut self, bytes: &[u8])
+        requires { Room (length bytes.now) self.old }
+        ensures { Wrote bytes.now self.old self.new }
+    {
+        let end = self.len + bytes.len();
+        self.bytes[self.len..end].copy_from_slice(bytes);
+        self.len = end;
+    }
+
+    fn push_digits(&mut self, n: usize)
+        requires { Room (length (digits_of n)) self.old }
+        ensures { Wrote (digits_of n) self.old self.new }
+    {
+        let end = self.len + width(n);
+        put_digits(&mut self.bytes[self.len..end], n);
+        self.len = end;
+    }
+
+    /// A number, with its minus.
+    pub fn push_number(&mut self, z: i64)
+        requires { Room (length (decimal z)) self.old }
+        ensures { Wrote (decimal z) self.old self.new }
+    {
+        // the least number has a size too, where 0 - z would have none
+        let size = z.unsigned_abs() as usize;
+        if z < 0 {
+            self.push(b'-');
+        }
+        self.push_digits(size);
+    }
+
+    // A tab and a number.
+    fn push_field(&mut self, z: i64)
+        requires { Room (length (tab ∷ decimal z)) self.old }
+        ensures { Wrote (tab ∷ decimal z) self.old self.new }
+    {
+        self.push(b'\t');
+        self.push_number(z);
+    }
+
+    // A tab and a count.
+    // Kept: a twin of `push_field`, since a count of 64 bits has no i64; a trait over the two types would be longer than these two lines: no plainer.
+    fn push_count(&mut self, n: usize)
+        requires { Room (length (tab ∷ digits_of n)) self.old }
+        ensures { Wrote (tab ∷ digits_of n) self.old self.new }
+    {
+        self.push(b'\t');
+        self.push_digits(n);
+    }
+
+    /// The first of some numbers, each after a tab, and a line feed.
+    pub fn push_tabbed(&mut self, numbers: &[i32], count: usize)
+        requires { Room (21 * length numbers.now + 1) self.old }
+        ensures { Wrote (tabbed (take count numbers.now)) self.old self.new }
+    {
+        let n = count.min(numbers.len());
+        for &number in &numbers[..n] {
+            self.push_field(i64::from(number));
+        }
+        self.push(b'\n');
+    }
+
+    /// A, count, visits, numbers.
+    pub fn push_answer(&mut self, reply: Reply, numbers: &[i32])
+        requires { Room (21 * length numbers.now + 44) self.old }
+        ensures { Wrote (printed (reply, numbers.now)) self.old self.new }
+    {
+        let count = size(reply.count);
+        self.push(b'A');
+        self.push_field(reply.count);
+        self.push_field(reply.visits);
+        self.push_tabbed(numbers, count);
+    }
+
+    // Kept: the number is what is printed: a `lines::Fault` and the reply of a C call both end in one.
+    /// R, answer number, line number.
+    pub fn push_fault(&mut self, number: usize, line: usize)
+        requires { Room 44 self.old }
+        ensures { Wrote (letter_R ∷ tabbed (pos number ∷ pos line ∷ [])) self.old self.new }
+    {
+        self.push(b'R');
+        self.push_count(number);
+        self.push_count(line);
+        self.push(b'\n');
+    }
 }

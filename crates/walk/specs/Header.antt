@@ -1,6 +1,6 @@
 -- Answer 9 by its parts, and what an index that it is not given for has.
 use Rattle.std.specs.Prelude.{◌≡◌, refl, Bool, true, false, not, ◌&&◌, ◌||◌, List, ℕ, ◌+◌, ◌-◌, ◌^◌, ◌≤◌, ◌<◌, ltb, leb, length, ℤ, pos, negsuc, ◌+ℤ◌}
-use Rattle.std.proofs.Common.{sym, ap, ◌∙◌, true≢false, arith, ltb-true, ltb-false, lt-ltb, le-ltb, leb-true}
+use Rattle.std.proofs.Common.{sym, ◌∙◌, true≢false, arith, ltb-true, ltb-false, lt-ltb, le-ltb, leb-true}
 use Rattle.std.specs.Int.Signed.{lt_z}
 use Rattle.lists.specs.Plain.{same, to_nat}
 use Rattle.lists.specs.Digits.{digits_bound, digits_least}
@@ -9,14 +9,16 @@ use Rattle.paper.specs.Orders.{bad_index}
 use Rattle.paper.specs.Words.{L, W}
 use Rattle.paper.specs.Walk.{word, size_in}
 use Rattle.tally.specs.Reads.{Ready}
-use Rattle.tally.specs.declared.Index.{Index}
+use Rattle.axes.specs.declared.Axis.{Axis}
+use Rattle.axes.specs.declared.Axis.TheVariants.{Horizontal, Vertical}
 
 abbrev pub bad_header : (n lower across upright : ℤ) → Bool
 bad_header n lower across upright = not (extent_fits n) || not (lower_fits lower) || lt_z across (pos 0) || lt_z upright (pos 0) || not (same (across +ℤ upright) n)
 
--- what the header says of every number
-abbrev pub index_of : List ℤ → Index
-index_of ws = record { n = size_in ws; lower = word ws 1 }
+-- how many segments the header says to lie along an axis
+abbrev pub along_in : List ℤ → Axis → ℕ
+along_in ws Horizontal = to_nat (word ws 2)
+along_in ws Vertical = to_nat (word ws 3)
 
 or_left : (a b : Bool) → (a || b) ≡ false → a ≡ false
 or_left true b e = e
@@ -83,19 +85,6 @@ module _ (ws : List ℤ) where
   long_index : 4 ≤ length ws → (bad_index ws).given ≡ (bad || ltb (length ws) (W (size_in ws)))
   long_index h = rw (le-ltb (length ws) 4 h)
 
-  pub header_index : 4 ≤ length ws → true ≡ bad → true ≡ (bad_index ws).given
-  header_index h e = sym (long_index h ∙ ap (λ (b : Bool). b || ltb (length ws) (W (size_in ws))) (sym e))
-
-  module _ (h : 4 ≤ length ws) (e : false ≡ bad) where
-    pub words_index : ltb (length ws) (W (size_in ws)) ≡ (bad_index ws).given
-    words_index = sym (long_index h ∙ ap (λ (b : Bool). b || ltb (length ws) (W (size_in ws))) (sym e))
-
-    pub size_small : size_in ws ≤ 4096
-    size_small =
-        (small (word ws 0)
-        (not_no (extent_fits (word ws 0)) (or_left far off (or_left (far || off) less (or_left (far || off || less) fewer (or_left (far || off || less || fewer) uneven (sym e))))))
-        ).1
-
   pub sound_index : (bad_index ws).given ≡ false → Sound
   sound_index e = go (ltb (length ws) 4) refl
     where
@@ -121,7 +110,7 @@ module _ (ws : List ℤ) where
           }
 
   module _ (s : Sound) where
-    pub ready : Ready (index_of ws) ws
+    pub ready : Ready ws (size_in ws) (word ws 1)
     ready = record { small = omega (arith, s.most); lower = s.lower; records = omega (arith, s.words) }
 
     -- levels below the first are enough for n, and few

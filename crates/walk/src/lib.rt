@@ -2,191 +2,172 @@
 // It lists into whatever room is lent and counts on where there is none; the window's edges may stand in any order.
 #![tactic(auto)]
 
-ghost use Rattle.std.specs.Prelude.{◌≡◌, false, ◌+◌, ◌*◌, ◌<◌, ◌≤◌, length};
-ghost use Rattle.std.specs.Int.{w32};
-ghost use Rattle.std.proofs.Common.{SFits};
+ghost use Rattle.std.specs.Prelude.{◌≡◌, false, ◌+◌, ◌*◌, ◌<◌, ◌≤◌, ◌↔◌, length, ◌+ℤ◌, IsSome, IfSome, IfOk};
+ghost use Rattle.lists.specs.Plain.{same};
 ghost use Rattle.paper.specs.Orders.{bad_index};
 ghost use Rattle.paper.specs.Walk.{word, size_in, walk_of};
 ghost use Rattle.tally.specs.Fold.{Given};
-ghost use Rattle.walk.specs.Header.{bad_header, index_of, Sound};
-ghost use Rattle.walk.specs.Whole.{LowEnds, Crossed, across_of, upright_of, band_of};
+ghost use Rattle.walk.specs.Header.{bad_header, along_in};
+ghost use Rattle.walk.specs.Whole.{LowEnds, Crossed, band_of};
 
-use blocks::blocks;
-use nodes::nodes;
+use axes::Axis;
+use blocks::Block;
+use nodes::Node;
 use paper::Window;
-use queues::Band;
+use queues::{Band, Pending};
 use slots::search;
-use tally::{Index, Tally, levels_at, whole_at};
-use whole::widen;
+use tally::{Index, Spoiled, Tally, levels_at};
 
-// A word, as an i64.
-fn word_at(words: &[i32], at: usize) -> i64
-    requires { at < length words.now }
-    ensures value { result ≡ word words.now at }
-    ensures fits { SFits w32 result }
+// Whether the counts of horizontals and verticals add to n.
+fn adds_up(n: i32, across: i32, upright: i32) -> bool
+    ensures { result ≡ same (across +ℤ upright) n }
 {
-    widen(words[at])
+    i64::from(across) + i64::from(upright) == i64::from(n)
 }
 
 // What answer 9 says of the four words of a header: n and lower bound beyond limits, a count negative, counts that do not add to n.
-fn bad_header(n: i64, lower: i64, across: i64, upright: i64) -> bool
-    requires { SFits w32 across × SFits w32 upright }
+fn bad_header(n: i32, lower: i32, across: i32, upright: i32) -> bool
     ensures { result ≡ bad_header n lower across upright }
 {
-    let all = across + upright;
-    !((0 <= n) & (n <= 4096))
-        | !((-1000000 <= lower) & (lower <= 1000000))
+    !(0..=4096).contains(&n)
+        | !(-1000000..=1000000).contains(&lower)
         | (across < 0)
         | (upright < 0)
-        | !((all <= n) & (n <= all))
+        | !adds_up(n, across, upright)
 }
 
-// Answer 9.
+/// Answer 9.
 pub fn bad_index(words: &[i32]) -> bool
     ensures { result ≡ (bad_index words.now).given }
 {
-    if words.len() < 4 {
+    let [n, lower, across, upright, ..] = words else {
         return true;
-    }
-    if bad_header(
-        word_at(words, 0),
-        word_at(words, 1),
-        word_at(words, 2),
-        word_at(words, 3),
-    ) {
-        return true;
-    }
-    let n = whole_at(words, 0, 0);
-    words.len() < table::words(n)
-}
-
-// What the header says of every number.
-fn header(words: &[i32]) -> Index
-    requires { Sound words.now }
-    ensures { result ≡ index_of words.now }
-{
-    Index {
-        n: whole_at(words, 0, 0),
-        lower: word_at(words, 1),
-    }
-}
-
-// The group of the low ends in the window: the search, and the nodes from the slot found.
-fn low_ends(words: &[i32], numbers: &mut [i32], stack: &mut [usize], window: Window) -> Tally
-    requires sound { Sound words.now }
-    requires words_nonzero { (0 < size_in words.now) × (72 ≤ length stack.old) }
-    ensures { LowEnds words.now window numbers.old (result, numbers.new) }
-{
-    let index = header(words);
-    let n = index.n;
-    let start = Tally {
-        stopped: 0,
-        listed: 0,
-        visits: 0,
     };
-    let found = search(words, n, window, start);
-    let levels = table::digits(n - 1);
-    nodes(
-        words,
-        numbers,
-        stack,
-        index,
-        window,
-        found.tally,
-        levels,
-        n,
-        found.p,
-        levels_at(n),
-    )
+    if bad_header(*n, *lower, *across, *upright) {
+        return true;
+    }
+    words.len() < table::words(*n as usize)
 }
 
-// What is looked for among the horizontals: a, and levels c..d.
-fn across(window: Window) -> Band
-    ensures { result ≡ across_of window }
-{
-    Band {
-        axis: 0,
-        edge: window.a,
-        low: window.c,
-        high: window.d,
+/// Words that answer 9 passes: an index by its header and its length, whatever its other words are.
+#[derive(Clone, Copy)]
+pub struct IndexWords<'a> {
+    pub words: &'a [i32],
+    pub ghost sound: { (bad_index words.now).given ≡ false },
+}
+
+impl<'a> IndexWords<'a> {
+    /// None where answer 9 is given.
+    pub fn new(words: &'a [i32]) -> Option<IndexWords<'a>>
+        ensures some { IsSome result ↔ ((bad_index words.now).given ≡ false) }
+        ensures value { IfSome result (λ index. index.words ≡ words.entry) }
+    {
+        if bad_index(words) {
+            return None;
+        }
+        Some(IndexWords { words })
+    }
+
+    /// How many segments it is of.
+    pub fn count(self) -> usize
+        ensures value { result ≡ size_in self.entry.words.now }
+        ensures within { result ≤ 4096 }
+    {
+        self.words[0] as usize
+    }
+
+    // How many of them lie along an axis.
+    fn along(self, axis: Axis) -> usize
+        ensures { result ≡ along_in self.entry.words.now axis }
+    {
+        match axis {
+            Axis::Horizontal => self.words[2] as usize,
+            Axis::Vertical => self.words[3] as usize,
+        }
+    }
+
+    // The words, and what the header says of every number.
+    fn index(self) -> Index<'a>
+        ensures words { result.words.now ≡ self.entry.words.now }
+        ensures n { result.n ≡ size_in self.entry.words.now }
+        ensures lower { result.lower ≡ word self.entry.words.now 1 }
+    {
+        Index {
+            words: self.words,
+            n: self.count(),
+            lower: i64::from(self.words[1]),
+        }
+    }
+
+    // The group of the low ends in the window: the search, and the nodes from the slot found.
+    fn low_ends(self, window: Window, numbers: &mut [i32]) -> Result<Tally, Spoiled>
+        requires { 0 < size_in self.words.now }
+        ensures { LowEnds self.entry.words.now window numbers.old result numbers.new }
+    {
+        let index = self.index();
+        let found = search(index, window, Tally::default())?;
+        let whole = Node {
+            levels: table::digits(index.n - 1),
+            size: index.n,
+            p: found.p,
+            at: levels_at(index.n),
+        };
+        whole.walk(index, numbers, window, found.tally)
+    }
+
+    // The groups of the horizontals and the verticals, in a loop: blocks are walked from one place, so that their code is compiled into it, for each axis apart.
+    fn crossings(
+        self,
+        window: Window,
+        numbers: &mut [i32],
+        mut tally: Tally,
+    ) -> Result<Tally, Spoiled>
+        requires some { 0 < size_in self.words.now }
+        requires few { tally.visits ≤ 4 * size_in self.words.now }
+        ensures { Crossed self.entry.words.now window tally numbers.old result numbers.new }
+    {
+        let index = self.index();
+        let n = index.n;
+        let mut pending = Pending::new();
+        let mut at = levels_at(n) + 2 * n * (table::digits(n - 1) + 1);
+        for axis in [Axis::Horizontal, Axis::Vertical] {
+            let size = self.along(axis);
+            let band = band_of(window, axis);
+            tally = Block { at, size }.walk(index, numbers, &mut pending, band, tally)?;
+            at += 8 * size;
+        }
+        Ok(tally)
+    }
+
+    /// The walk: the low ends, the horizontals, the verticals. On Err a word that it read is spoiled; then the cells past the first n are as they were.
+    pub fn walk(self, window: Window, numbers: &mut [i32]) -> Result<Tally, Spoiled>
+        ensures given { Given (size_in self.entry.words.now) (word self.entry.words.now 1) numbers.old (walk_of self.entry.words.now window) result numbers.new }
+        ensures few { IfOk result (λ tally. tally.visits ≤ 6 * size_in self.entry.words.now) }
+    {
+        if self.count() == 0 {
+            return Ok(Tally::default());
+        }
+        let tally = self.low_ends(window, numbers)?;
+        self.crossings(window, numbers, tally)
     }
 }
 
-// What is looked for among the verticals: c, and levels a..b.
-fn upright(window: Window) -> Band
-    ensures { result ≡ upright_of window }
-{
-    Band {
-        axis: 1,
-        edge: window.c,
-        low: window.a,
-        high: window.b,
-    }
-}
-
-// What is looked for along an axis: 0 the horizontals, 1 the verticals.
-fn band_of(window: Window, axis: usize) -> Band
+// What is looked for along an axis: among the horizontals a, and levels c..d; among the verticals c, and levels a..b.
+fn band_of(window: Window, axis: Axis) -> Band
     ensures { result ≡ band_of window axis }
 {
-    if axis == 0 {
-        return across(window);
+    match axis {
+        Axis::Horizontal => Band {
+            axis,
+            edge: window.a,
+            low: window.c,
+            high: window.d,
+        },
+        Axis::Vertical => Band {
+            axis,
+            edge: window.c,
+            low: window.a,
+            high: window.b,
+        },
     }
-    upright(window)
-}
-
-// The groups of the horizontals and the verticals, in a loop: blocks are walked from one place, so that their code is compiled into it, for each axis apart.
-fn crossings(
-    words: &[i32],
-    numbers: &mut [i32],
-    stack: &mut [usize],
-    index: Index,
-    window: Window,
-    tally0: Tally,
-) -> Tally
-    requires sound { Sound words.now }
-    requires index_value { (index ≡ index_of words.now) × (0 < size_in words.now) }
-    requires visits_bound { (tally0.visits ≤ 4 * size_in words.now) × (40 ≤ length stack.old) }
-    ensures { Crossed words.now window (tally0, numbers.old) (result, numbers.new) }
-{
-    let n = index.n;
-    let mut tally = tally0;
-    let mut at = levels_at(n) + 2 * n * (table::digits(n - 1) + 1);
-    let mut axis: usize = 0;
-    while axis < 2 {
-        let m = whole_at(words, 2 + axis, 0);
-        let next = blocks(
-            words,
-            numbers,
-            stack,
-            index,
-            band_of(window, axis),
-            tally,
-            at,
-            m,
-        );
-        tally = next;
-        at = at + 8 * m;
-        axis = axis + 1;
-    }
-    tally
-}
-
-// The walk: the low ends, the horizontals, the verticals.
-pub fn walk(words: &[i32], window: Window, numbers: &mut [i32]) -> Tally
-    requires { (bad_index words.now).given ≡ false }
-    ensures given { Given (size_in words.now) (word words.now 1) numbers.old (walk_of words.now window) result numbers.new }
-    ensures few { result.visits ≤ 6 * size_in words.now }
-{
-    let index = header(words);
-    let n = index.n;
-    if n == 0 {
-        return Tally {
-            stopped: 0,
-            listed: 0,
-            visits: 0,
-        };
-    }
-    let mut stack = [0usize; 72];
-    let first = low_ends(words, numbers, &mut stack, window);
-    crossings(words, numbers, &mut stack, index, window, first)
 }

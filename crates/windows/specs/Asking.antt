@@ -1,13 +1,13 @@
 -- What the walks of many windows leave in the cells that they are listed into, one after another.
 -- Use: `nothing_asked` and `one_more` for a loop over the windows; `onward` for one walk into what is left of a room.
-use Rattle.std.specs.Prelude.{◌≡◌, refl, true, false, List, [], ◌∷◌, ◌++◌, map, ℕ, ◌+◌, ◌-◌, ◌*◌, ◌≤◌, ◌<◌, min, ℤ, pos, length, take, drop, set}
+use Rattle.std.specs.Prelude.{◌≡◌, refl, Bool, true, false, List, [], ◌∷◌, ◌++◌, map, ℕ, ◌+◌, ◌-◌, ◌*◌, ◌≤◌, ◌<◌, min, ℤ, pos, length, take, drop, set, Option, Some, None, Result, Ok, Err, is_ok, IsErr}
 use Rattle.std.proofs.Math.Path.{sym}
 use Rattle.std.proofs.Common.{ap, ap₂, ◌∙◌, append-nil, add-one, length-append, length-drop, drop_of_length-le, take_all}
 use Rattle.std.proofs.lemmas.List.{map-append, length-map}
 use native.Mathlib.Omega.{arith}
 use Rattle.lists.specs.Plain.{joined, positions, sum}
 use Rattle.lists.specs.Positions.{positions_length, joined_append, joined_one, sum_append}
-use Rattle.lists.specs.Choosing.{First}
+use Rattle.lists.specs.Tests.{clash}
 use Rattle.lists.specs.Filling.{filled, filled_none, filled_more, filled_length, filled_onward}
 use Rattle.paper.specs.Orders.{is_stopped, due_by, due_to_all}
 use Rattle.paper.specs.Results.{numbers_of}
@@ -17,16 +17,25 @@ use Rattle.paper.specs.declared.Window.{Window}
 use Rattle.promise.specs.Calls.{listed_in, visits_in}
 use Rattle.promise.specs.Many.{due_to, all_due}
 use Rattle.tally.specs.Fold.{Given, tally}
+use Rattle.tally.specs.declared.Spoiled.{Spoiled}
 use Rattle.tally.specs.declared.Tally.{Tally}
-use Rattle.windows.specs.declared.Asked.{Asked}
 
 -- what a walk gives that lists after others, into a room of which they have taken the first cells: as many numbers and visits as are its own, and a room
 -- that they have filled holds its numbers after theirs
-abbrev pub Onward : ℕ → ℤ → (room : List ℤ) → (taken : ℕ) → Walked → Tally → (after : List ℤ) → Type 0
-Onward n first room taken (walked ps v) t after =
-    (t ≡ tally 0 (length ps) v) × (length ps ≤ n)
+abbrev pub Onward : ℕ → ℤ → (room : List ℤ) → (taken : ℕ) → Walked → Result Tally Spoiled → (after : List ℤ) → Type 0
+Onward n first room taken (walked ps v) r after =
+    (r ≡ Ok (tally (length ps) v)) × (length ps ≤ n)
     × ((xs cells : List ℤ) → taken ≡ length xs → room ≡ filled xs cells → after ≡ filled (xs ++ numbers_of first ps) cells)
-Onward n first room taken stopped t after = 0 < t.stopped
+Onward n first room taken stopped r after = IsErr r
+
+-- the two numbers of a tally that there is
+abbrev listed_of : Result Tally Spoiled → ℕ
+listed_of (Ok t) = t.listed
+listed_of (Err x) = 0
+
+abbrev visits_of : Result Tally Spoiled → ℕ
+visits_of (Ok t) = t.visits
+visits_of (Err x) = 0
 
 -- the first i windows of a slice
 abbrev pub first_windows : List ℤ → ℕ → List Window
@@ -41,8 +50,8 @@ windows_length edges i = length-map (positions i) (window_at edges) ∙ position
 
 -- a walk into the cells that are left: from s on, k of them
 pub onward : (n : ℕ) (first : ℤ) (room : List ℤ) (taken s k : ℕ) → s ≡ min taken (length room) → k ≡ length room - s
-    → (o : Walked) (t : Tally) (part : List ℤ) → Given n first (take k (drop s room)) o t part → Onward n first room taken o t (take s room ++ (part ++ drop k (drop s room)))
-onward n first room taken s k e h (walked ps v) t part g = (
+    → (o : Walked) (r : Result Tally Spoiled) (part : List ℤ) → Given n first (take k (drop s room)) o r part → Onward n first room taken o r (take s room ++ (part ++ drop k (drop s room)))
+onward n first room taken s k e h (walked ps v) r part g = (
   g.0,
   g.2,
   λ xs cells at q.
@@ -56,17 +65,17 @@ onward n first room taken s k e h (walked ps v) t part g = (
   where
     rest : length (drop s room) ≡ k
     rest = length-drop s room ∙ sym h
-onward n first room taken s k e h stopped t part g = g.0
+onward n first room taken s k e h stopped r part g = g.0
 
 module _ (n : ℕ) (first : ℤ) (room : List ℤ) (taken : ℕ) where
-  pub spoilt : (o : Walked) (t : Tally) (after : List ℤ) → Onward n first room taken o t after → 0 < t.stopped → is_stopped o ≡ true
-  spoilt (walked ps v) t after g h = absurd (omega (arith, ap (λ (x : Tally). x.stopped) g.0))
-  spoilt stopped t after g h = refl
+  pub spoilt : (o : Walked) (x : Spoiled) (after : List ℤ) → Onward n first room taken o (Err x) after → is_stopped o ≡ true
+  spoilt (walked ps v) x after g = clash (ap (λ (r : Result Tally Spoiled). is_ok r) (sym g.0))
+  spoilt stopped x after g = refl
 
   -- a walk that is not spoiled, and lists at most n
-  pub ended : (o : Walked) (t : Tally) (after : List ℤ) → Onward n first room taken o t after → t.stopped ≤ 0 → (is_stopped o ≡ false) × (t.listed ≤ n)
-  ended (walked ps v) t after g h = (refl, omega (arith, ap (λ (x : Tally). x.listed) g.0, g.1))
-  ended stopped t after g h = absurd (omega (arith, g))
+  pub ended : (o : Walked) (t : Tally) (after : List ℤ) → Onward n first room taken o (Ok t) after → (is_stopped o ≡ false) × (t.listed ≤ n)
+  ended (walked ps v) t after g = (refl, omega (arith, ap (λ (r : Result Tally Spoiled). listed_of r) g.0, g.1))
+  ended stopped t after g = clash (sym g)
 
 module _ (ws : List ℤ) where
   -- what the walks of some windows come to, none of them spoiled: in cells for their counts, and in a room for their numbers
@@ -100,16 +109,16 @@ module _ (ws : List ℤ) where
     module _ {counts₀ room₀ : List ℤ} {due visits : ℕ} {counts room : List ℤ} (a : Answers windows counts₀ room₀ due visits counts room) where
       -- a window more, whose walk is not spoiled
       pub one_more : (t : Tally) (after : List ℤ) (i : ℕ) → i ≡ length windows → size_in ws ≤ 4096 → t.visits ≤ 6 * size_in ws
-          → Onward (size_in ws) (word ws 1) room due (walk_of ws w) t after → t.stopped ≤ 0
+          → Onward (size_in ws) (word ws 1) room due (walk_of ws w) (Ok t) after
           → Answers (windows ++ (w ∷ [])) counts₀ room₀ (due + t.listed) (visits + t.visits) (set counts i (pos t.listed)) after
-      one_more t after i at most few g h = go (walk_of ws w) refl g
+      one_more t after i at most few g = go (walk_of ws w) refl g
         where
-          go : (o : Walked) → walk_of ws w ≡ o → Onward (size_in ws) (word ws 1) room due o t after
+          go : (o : Walked) → walk_of ws w ≡ o → Onward (size_in ws) (word ws 1) room due o (Ok t) after
               → Answers (windows ++ (w ∷ [])) counts₀ room₀ (due + t.listed) (visits + t.visits) (set counts i (pos t.listed)) after
-          go stopped e g = absurd (omega (arith, g, h))
+          go stopped e g = clash (sym g)
           go (walked ps v) e g =
-              let listed : t.listed ≡ due_by (walk_of ws w) = ap (λ (x : Tally). x.listed) g.0 ∙ ap due_by (sym e) in
-              let seen : t.visits ≡ visits_in (walk_of ws w) = ap (λ (x : Tally). x.visits) g.0 ∙ ap visits_in (sym e) in
+              let listed : t.listed ≡ due_by (walk_of ws w) = ap (λ (r : Result Tally Spoiled). listed_of r) g.0 ∙ ap due_by (sym e) in
+              let seen : t.visits ≡ visits_in (walk_of ws w) = ap (λ (r : Result Tally Spoiled). visits_of r) g.0 ∙ ap visits_in (sym e) in
               let size : length (windows ++ (w ∷ [])) ≡ length windows + 1 = length-append windows (w ∷ []) in
               let f : Window → ℤ = λ u. pos (due_by (walk_of ws u)) in
               record {
@@ -124,11 +133,17 @@ module _ (ws : List ℤ) where
                     g.2 (joined (map (due_to ws) windows)) room₀ (a.due_are ∙ sym (all_due ws windows)) a.room_is
                     ∙ ap (λ (o : Walked). filled (joined (map (due_to ws) windows) ++ numbers_of (word ws 1) (listed_in o)) room₀) (sym e)
                     ∙ ap (λ (zs : List ℤ). filled zs room₀) (sym due_more);
-                few_due = omega (arith, a.few_due, size, ap (λ (x : Tally). x.listed) g.0, g.1);
+                few_due = omega (arith, a.few_due, size, ap (λ (r : Result Tally Spoiled). listed_of r) g.0, g.1);
                 few_visits = omega (arith, a.few_visits, size, few);
               }
 
+-- the first of m that has a fault, if one has
+abbrev pub Sought : (ℕ → Bool) → ℕ → Option ℕ → Type 0
+Sought q m None = (k : ℕ) → k < m → q k ≡ false
+Sought q m (Some i) = (i < m) × ((k : ℕ) → k < i → q k ≡ false) × (q i ≡ true)
+
 -- what is found when windows are asked in turn: the first whose walk is spoiled; where there is none, what the walks come to
-pub record Found (ws edges : List ℤ) (m : ℕ) (counts₀ room₀ : List ℤ) (r : Asked) (counts room : List ℤ) : Type 0 where
-  pub first : First (λ i. is_stopped (walk_of ws (window_at edges i))) m r.windows
-  pub answers : r.windows ≡ m → Answers ws (first_windows edges m) counts₀ room₀ r.due r.visits counts room
+abbrev pub Found : (ws edges : List ℤ) → ℕ → (counts₀ room₀ : List ℤ) → Result Tally ℕ → (counts room : List ℤ) → Type 0
+Found ws edges m counts₀ room₀ (Ok t) counts room =
+    Sought (λ i. is_stopped (walk_of ws (window_at edges i))) m None × Answers ws (first_windows edges m) counts₀ room₀ t.listed t.visits counts room
+Found ws edges m counts₀ room₀ (Err i) counts room = Sought (λ i. is_stopped (walk_of ws (window_at edges i))) m (Some i)

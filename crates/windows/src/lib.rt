@@ -1,147 +1,162 @@
 // Many windows of one index in one call (request E5). Nothing is asked of the input: bad input gets its answer number and leaves every lent cell as it was.
 #![tactic(auto)]
 
-ghost use Rattle.std.specs.Prelude.{◌≡◌, false, ◌*◌, ◌+◌, ◌≤◌, length};
-ghost use Rattle.lists.specs.Choosing.{First};
+ghost use Rattle.std.specs.Prelude.{◌≡◌, false, ◌*◌, ◌+◌, ◌<◌, ◌≤◌, length, IfOk, IfErr, IsSome, IfSome, ◌↔◌};
 ghost use Rattle.paper.specs.Answers.{bad_slice, bad_window, bad_windows};
-ghost use Rattle.paper.specs.Orders.{bad_index};
 ghost use Rattle.paper.specs.Results.{over, queried_many};
 ghost use Rattle.paper.specs.Demands.{ManyPromises};
 ghost use Rattle.paper.specs.Walk.{word, size_in, walk_of};
-ghost use Rattle.paper.specs.Windows.{window_at};
-ghost use Rattle.windows.specs.Asking.{Onward, Found};
-ghost use Rattle.windows.specs.Outcome.{Whole, Kept, counts_due, numbers_due};
+ghost use Rattle.paper.specs.Windows.{window_at, window_count};
+ghost use Rattle.refusals.specs.Orders.{reply_of, Carried};
+ghost use Rattle.windows.specs.Asking.{Onward, Sought, Found};
+ghost use Rattle.windows.specs.Outcome.{Kept, counts_due, numbers_due, GivenMany};
 
 use paper::{Reply, Window};
-use tally::Tally;
+use refusals::Refusal;
+use tally::{Spoiled, Tally};
+use walk::IndexWords;
 
-// What was asked: the windows before one whose walk is spoiled, and of these together the numbers due and the visits.
+// Windows in one slice, four edges each: whole ones, and not too many.
 #[derive(Clone, Copy)]
-pub struct Asked {
-    pub windows: usize,
-    pub due: usize,
-    pub visits: usize,
+struct Windows<'a> {
+    edges: &'a [i64],
+    ghost few: { window_count edges.now ≤ 64 },
 }
 
-// The i-th window of a slice, from 0.
-fn window_at(edges: &[i64], i: usize) -> Window
-    requires { 4 * i + 4 ≤ length edges.now }
-    ensures { result ≡ window_at edges.now i }
-{
-    let at = 4 * i;
-    Window {
-        a: edges[at],
-        b: edges[at + 1],
-        c: edges[at + 2],
-        d: edges[at + 3],
-    }
-}
-
-// Answer 14.
-fn bad_slice(edges: &[i64], lent: usize) -> bool
-    ensures { result ≡ (bad_slice edges.now lent).given }
-{
-    let m = edges.len() / 4;
-    (4 * m != edges.len()) | (64 < m) | (lent < m)
-}
-
-// The first of m windows that answer 8 refuses, or m.
-fn first_bad(edges: &[i64], m: usize) -> usize
-    requires { 4 * m ≤ length edges.now }
-    ensures { First (λ i. (bad_window (window_at edges.now i)).given) m result }
-{
-    let mut i = 0;
-    while i < m {
-        if meeting::bad_window(window_at(edges, i)) {
-            return i;
+impl<'a> Windows<'a> {
+    // None where answer 14 is given, for so many count cells.
+    fn new(edges: &'a [i64], lent: usize) -> Option<Windows<'a>>
+        ensures some { IsSome result ↔ ((bad_slice edges.now lent).given ≡ false) }
+        ensures value { IfSome result (λ windows. windows.edges.now ≡ edges.now) }
+    {
+        let m = edges.len() / 4;
+        if (4 * m != edges.len()) | (64 < m) | (lent < m) {
+            return None;
         }
-        i += 1;
+        Some(Windows { edges })
     }
-    m
+
+    fn count(self) -> usize
+        ensures { (result ≡ window_count self.entry.edges.now) × (result ≤ 64) }
+    {
+        self.edges.len() / 4
+    }
+
+    // The i-th window, from 0.
+    fn at(self, i: usize) -> Window
+        requires { i < window_count self.edges.now }
+        ensures { result ≡ window_at self.entry.edges.now i }
+    {
+        let at = 4 * i;
+        Window {
+            a: self.edges[at],
+            b: self.edges[at + 1],
+            c: self.edges[at + 2],
+            d: self.edges[at + 3],
+        }
+    }
+
+    // The first that answer 8 refuses.
+    fn first_bad(self) -> Option<usize>
+        ensures { Sought (λ i. (bad_window (window_at self.entry.edges.now i)).given) (window_count self.entry.edges.now) result }
+    {
+        for i in 0..self.count() {
+            if meeting::bad_window(self.at(i)) {
+                return Some(i);
+            }
+        }
+        None
+    }
 }
 
 // The walk of a window into what is left of a room of which others have taken the first cells; where nothing is left it only counts.
-fn walk_on(words: &[i32], window: Window, room: &mut [i32], taken: usize) -> Tally
-    requires { (bad_index words.now).given ≡ false }
-    ensures onward { Onward (size_in words.now) (word words.now 1) room.old taken (walk_of words.now window) result room.new }
-    ensures few { result.visits ≤ 6 * size_in words.now }
+fn walk_on(
+    index: IndexWords<'_>,
+    window: Window,
+    room: &mut [i32],
+    taken: usize,
+) -> Result<Tally, Spoiled>
+    ensures onward { Onward (size_in index.entry.words.now) (word index.entry.words.now 1) room.old taken (walk_of index.entry.words.now window) result room.new }
+    ensures few { IfOk result (λ t. t.visits ≤ 6 * size_in index.entry.words.now) }
 {
-    let start = rooms::lesser(taken, room.len());
-    walk::walk(words, window, &mut room[start..])
+    let start = taken.min(room.len());
+    index.walk(window, &mut room[start..])
 }
 
-// The windows in turn, each into what those before it have left of the room, until one whose walk is spoiled.
-fn ask(words: &[i32], edges: &[i64], m: usize, counts: &mut [i32], room: &mut [i32]) -> Asked
-    requires words_value { (bad_index words.now).given ≡ false }
-    requires m_in_bounds { (4 * m ≤ length edges.now) × (m ≤ 64) × (m ≤ length counts.old) }
-    ensures { Found words.now edges.now m counts.old room.old result counts.new room.new }
+// The windows in turn, each into what those before it have left of the room: how many numbers they list together and in how many visits. An error says
+// which is the first whose walk is spoiled.
+fn ask(
+    index: IndexWords<'_>,
+    windows: Windows<'_>,
+    counts: &mut [i32],
+    room: &mut [i32],
+) -> Result<Tally, usize>
+    requires counts_enough { window_count windows.edges.now ≤ length counts.old }
+    ensures { Found index.entry.words.now windows.entry.edges.now (window_count windows.entry.edges.now) counts.old room.old result counts.new room.new }
 {
-    let mut due: usize = 0;
-    let mut visits: usize = 0;
-    let mut i: usize = 0;
-    while i < m {
-        let tally = walk_on(words, window_at(edges, i), room, due);
-        if 0 < tally.stopped {
-            return Asked {
-                windows: i,
-                due: due,
-                visits: visits,
-            };
-        }
+    let mut all = Tally {
+        listed: 0,
+        visits: 0,
+    };
+    for i in 0..windows.count() {
+        let Ok(tally) = walk_on(index, windows.at(i), room, all.listed) else {
+            return Err(i);
+        };
         counts[i] = records::as_word(tally.listed);
-        due = due + tally.listed;
-        visits = visits + tally.visits;
-        i += 1;
+        all.listed += tally.listed;
+        all.visits += tally.visits;
     }
-    Asked {
-        windows: m,
-        due: due,
-        visits: visits,
-    }
+    Ok(all)
 }
 
 // What was found, into the cells lent: copied where the room has held all the numbers, else by asking a second time.
 fn write(
-    words: &[i32],
-    edges: &[i64],
-    m: usize,
+    index: IndexWords<'_>,
+    windows: Windows<'_>,
     kept: &[i32],
     room: &[i32],
     due: usize,
     counts: &mut [i32],
     numbers: &mut [i32],
 )
-    requires words_value { (bad_index words.now).given ≡ false }
-    requires whole { Whole edges.now counts.old m × Kept words.now edges.now m kept.now room.now due × (due ≤ length numbers.old) }
-    ensures { (counts.new ≡ over (counts_due words.now edges.now m) counts.old) × (numbers.new ≡ over (numbers_due words.now edges.now m) numbers.old) }
+    requires kept { Kept index.words.now windows.edges.now (window_count windows.edges.now) kept.now room.now due }
+    requires fits { (window_count windows.edges.now ≤ length counts.old) × (due ≤ length numbers.old) }
+    ensures counts_after { counts.new ≡ over (counts_due index.entry.words.now windows.entry.edges.now (window_count windows.entry.edges.now)) counts.old }
+    ensures numbers_after { numbers.new ≡ over (numbers_due index.entry.words.now windows.entry.edges.now (window_count windows.entry.edges.now)) numbers.old }
 {
     if due <= room.len() {
-        rooms::copy(kept, counts, m);
-        rooms::copy(room, numbers, due);
+        let m = windows.count();
+        counts[..m].copy_from_slice(&kept[..m]);
+        numbers[..due].copy_from_slice(&room[..due]);
         return;
     }
-    ask(words, edges, m, counts, numbers);
+    // No walk is spoiled: it was asked before.
+    let _ = ask(index, windows, counts, numbers);
 }
 
 // What the call gives where 9, 14 and 8 refuse nothing. The windows list into a room of its own first, so that no refusal has changed a cell.
-fn answer(words: &[i32], edges: &[i64], counts: &mut [i32], numbers: &mut [i32]) -> Reply
-    requires words_value { (bad_index words.now).given ≡ false }
-    requires counts_value { ((bad_slice edges.now (length counts.old)).given ≡ false) × ((bad_windows edges.now).given ≡ false) }
-    ensures { (result, counts.new, numbers.new) ≡ queried_many words.now edges.now counts.old numbers.old }
+fn answer(
+    index: IndexWords<'_>,
+    windows: Windows<'_>,
+    counts: &mut [i32],
+    numbers: &mut [i32],
+) -> Result<Reply, Refusal>
+    requires { ((bad_slice windows.edges.now (length counts.old)).given ≡ false) × ((bad_windows windows.edges.now).given ≡ false) }
+    ensures given { (reply_of result, counts.new, numbers.new) ≡ queried_many index.entry.words.now windows.entry.edges.now counts.old numbers.old }
+    ensures carried { IfErr result Carried }
 {
-    let m = edges.len() / 4;
     let mut kept = [0i32; 64];
     let mut room = [0i32; 8192];
-    let asked = ask(words, edges, m, &mut kept, &mut room);
-    if asked.windows < m {
-        return refusals::refusal(10, 0, asked.windows);
-    }
-    let due = asked.due;
+    let asked = match ask(index, windows, &mut kept, &mut room) {
+        Ok(asked) => asked,
+        Err(window) => return Err(Refusal::Spoiled(window)),
+    };
+    let due = asked.listed;
     if numbers.len() < due {
-        return refusals::refusal(7, due, 0);
+        return Err(Refusal::Room(due));
     }
-    write(words, edges, m, &kept, &room, due, counts, numbers);
-    refusals::done(due, asked.visits)
+    write(index, windows, &kept, &room, due, counts, numbers);
+    Ok(refusals::done(due, asked.visits))
 }
 
 // The single queries of the windows in a slice, joined: one count for each into the count cells, the numbers one after another into the number cells;
@@ -150,16 +165,26 @@ pub fn query(words: &[i32], edges: &[i64], counts: &mut [i32], numbers: &mut [i3
     ensures numbers_after { (result, counts.new, numbers.new) ≡ queried_many words.now edges.now counts.old numbers.old }
     ensures promise { ManyPromises words.now edges.now counts.old numbers.old (result, counts.new, numbers.new) }
 {
-    if walk::bad_index(words) {
-        return refusals::refusal(9, 0, 0);
+    queried(words, edges, counts, numbers).unwrap_or_else(Reply::from)
+}
+
+fn queried(
+    words: &[i32],
+    edges: &[i64],
+    counts: &mut [i32],
+    numbers: &mut [i32],
+) -> Result<Reply, Refusal>
+    ensures given { GivenMany words.now edges.now counts.old numbers.old (reply_of result, counts.new, numbers.new) }
+    ensures carried { IfErr result Carried }
+{
+    let Some(index) = IndexWords::new(words) else {
+        return Err(Refusal::Index);
+    };
+    let Some(windows) = Windows::new(edges, counts.len()) else {
+        return Err(Refusal::Slice);
+    };
+    if let Some(bad) = windows.first_bad() {
+        return Err(Refusal::Window(bad));
     }
-    if bad_slice(edges, counts.len()) {
-        return refusals::refusal(14, 0, 0);
-    }
-    let m = edges.len() / 4;
-    let bad = first_bad(edges, m);
-    if bad < m {
-        return refusals::refusal(8, 0, bad);
-    }
-    answer(words, edges, counts, numbers)
+    answer(index, windows, counts, numbers)
 }

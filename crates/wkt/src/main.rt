@@ -4,233 +4,180 @@
 // any table in the one spelling is shorter, and so is any in lines.
 #![tactic(auto)]
 
-ghost use Rattle.std.specs.Prelude.{◌≡◌, ◌+◌, ◌*◌, ◌≤◌, ◌<◌, length};
-ghost use Rattle.wkt.specs.Bounds.{Fewer};
+ghost use Rattle.std.specs.Prelude.{◌≡◌, ◌≤◌, length};
+ghost use Rattle.texts.specs.Written.{Room};
 
 use fields::Line;
-use paper::{Descriptor, Segment};
+use lines::Fault;
+use paper::Descriptor;
 use std::io::{Read, Stdin, Stdout, Write};
+use texts::Output;
 
-// What a line does: the number of its fault, or how many segments there are after it.
-#[derive(Clone, Copy)]
-pub enum Taken {
-    Fault(usize),
-    Next(usize),
+// Kept: a writing error is let go at each write and not passed up by `?`: the program goes on after one, and what it does on an input may not change.
+fn print(mut stdout: Stdout, bytes: &[u8]) {
+    let _ = stdout.write_all(bytes);
 }
 
-fn least(a: usize, b: usize) -> usize
-    ensures { (result ≤ a) × (result ≤ b) }
+fn print_text(stdout: Stdout, output: Output)
+    requires { Room 0 output }
 {
-    if a < b {
-        return a;
-    }
-    b
+    let Output { bytes, len } = output;
+    print(stdout, &bytes[..len]);
 }
 
-fn print(mut output: Stdout, bytes: &[u8], n: usize) {
-    let m = least(n, bytes.len());
-    let _ = output.write_all(&bytes[..m]);
-}
-
-fn print_fault(output: Stdout, number: usize, place: usize) {
+fn print_fault(stdout: Stdout, number: usize, place: usize) {
     let mut line = [0u8; 64];
-    let end = texts::put_fault(&mut line, 0, number, place);
-    print(output, &line, end);
+    let mut output = Output {
+        bytes: &mut line,
+        len: 0,
+    };
+    output.push_fault(number, place);
+    print_text(stdout, output);
 }
 
 // ---- a text into lines
 
-fn print_segment(output: Stdout, cells: &[i32], i: usize)
-    requires { (i < 4096) × (length cells.now ≡ 16384) }
+fn print_segment(stdout: Stdout, coordinates: &[i32])
+    requires { length coordinates.now ≡ 4 }
 {
-    let first = 4 * i;
-    let end = first + 4;
     let mut line = [0u8; 128];
-    line[0] = b'S';
-    let k = texts::put_tabbed(&mut line, 1, &cells[first..end], 4);
-    print(output, &line, k);
+    let mut output = Output {
+        bytes: &mut line,
+        len: 0,
+    };
+    output.push(b'S');
+    output.push_tabbed(coordinates, 4);
+    print_text(stdout, output);
 }
 
-// A table whose numbers count from 1.
-fn print_table(output: Stdout, cells: &[i32], n: usize)
-    requires { (n ≤ 4096) × (length cells.now ≡ 16384) }
-{
-    print(output, b"T\t1\t1\n", 6);
-    let mut i = 0;
-    while i < n {
-        print_segment(output, cells, i);
-        i += 1;
+// A table whose numbers count from 1; its cells, four to a segment.
+fn print_table(stdout: Stdout, cells: &[i32]) {
+    print(stdout, b"T\t1\t1\n");
+    for coordinates in cells.chunks_exact(4) {
+        print_segment(stdout, coordinates);
     }
 }
 
-fn from_text(output: Stdout, text: &[u8], cells: &mut [i32])
-    requires { length cells.old ≡ 16384 }
-{
-    let reply = wkt_table::read(text, cells);
+fn from_text(stdout: Stdout, text: &[u8]) {
+    let mut cells = [0i32; 16384];
+    let reply = wkt_table::read(text, &mut cells);
+    // Kept: the reply is that of the C interface, with a number for each answer, 0 where it is done.
     let number = texts::size(reply.number);
     if number != 0 {
-        print_fault(output, number, texts::size(reply.position));
+        print_fault(stdout, number, texts::size(reply.position));
         return;
     }
-    let n = least(texts::size(reply.count), 4096);
-    print_table(output, cells, n);
+    let n = texts::size(reply.count).min(4096);
+    print_table(stdout, &cells[..4 * n]);
 }
 
 // ---- lines into a text
 
-// The descriptor of a T line; for a table in cells, four to a segment.
-fn described(kind: i64, lower: i64, extent: i64) -> Descriptor {
-    Descriptor {
-        kind,
-        base: 0,
-        lower,
-        extent,
-        segment_stride: 4,
-        coordinate_stride: 1,
-    }
+// The segments of the lines so far, four cells each.
+#[derive(Drop)]
+struct Segments {
+    cells: [i32; 16384],
+    count: usize,
+    ghost few: { count ≤ 4096 },
 }
 
-// The first line: 0 for another form, 1, 2.
-fn opened(line: Line) -> Taken
-    ensures { Fewer result }
-{
-    let Line::Table(kind, lower) = line else {
-        return Taken::Fault(0);
-    };
-    let d = described(kind, lower, 0);
-    if table::bad_kind(d) {
-        return Taken::Fault(1);
+impl Segments {
+    fn add(&mut self, line: Line) -> Result<(), Fault> {
+        let Line::Segment(segment) = line else {
+            return Err(Fault::Form);
+        };
+        if 4096 <= self.count {
+            return Err(Fault::Size);
+        }
+        if table::far_off(segment) {
+            return Err(Fault::Far);
+        }
+        lines::put_segment(&mut self.cells, 4 * self.count, segment);
+        self.count += 1;
+        Ok(())
     }
-    if table::bad_lower(d) {
-        return Taken::Fault(2);
-    }
-    Taken::Next(0)
-}
 
-// A line after it: 0 for another form or place, 3 at the 4,097th S, 5.
-fn added(line: Line, cells: &mut [i32], n: usize) -> Taken
-    requires { (n ≤ 4096) × (length cells.old ≡ 16384) }
-    ensures { Fewer result }
-{
-    let Line::Segment(segment) = line else {
-        return Taken::Fault(0);
-    };
-    if 4096 <= n {
-        return Taken::Fault(3);
+    // Line `i`, from 0.
+    fn take(&mut self, i: usize, text: &[u8]) -> Result<(), Fault> {
+        let line = fields::line_of(text);
+        if i == 0 {
+            lines::opened(line)?;
+            return Ok(());
+        }
+        self.add(line)
     }
-    if table::far_off(segment) {
-        return Taken::Fault(5);
-    }
-    lines::put_segment(cells, 4 * n, segment);
-    Taken::Next(n + 1)
-}
 
-fn line_taken(text: &[u8], line: usize, cells: &mut [i32], n: usize) -> Taken
-    requires { (n ≤ 4096) × (length cells.old ≡ 16384) }
-    ensures { Fewer result }
-{
-    let read = fields::line_of(text);
-    if line == 1 {
-        return opened(read);
+    // Their table's text and a line feed.
+    fn print(&self, stdout: Stdout) {
+        let descriptor = Descriptor {
+            kind: 1,
+            base: 0,
+            lower: 0,
+            extent: self.count as i64,
+            segment_stride: 4,
+            coordinate_stride: 1,
+        };
+        let mut text = [0u8; 196630];
+        let reply = wkt_table::write(&self.cells, descriptor, &mut text);
+        let end = texts::size(reply.count).min(196629);
+        text[end] = b'\n';
+        print(stdout, &text[..end + 1]);
     }
-    added(read, cells, n)
-}
-
-fn print_text(output: Stdout, cells: &[i32], n: usize)
-    requires { n ≤ 4096 }
-{
-    let mut out = [0u8; 196630];
-    let reply = wkt_table::write(cells, described(1, 0, whole::count(n)), &mut out);
-    let end = least(texts::size(reply.count), 196629);
-    out[end] = b'\n';
-    print(output, &out, end + 1);
 }
 
 // All lines, one after another; the table as a text after the last.
-fn from_lines(output: Stdout, text: &[u8], cells: &mut [i32])
-    requires { length cells.old ≡ 16384 }
-{
-    let mut at = 0;
-    let mut line = 1;
-    let mut n = 0;
-    while at < text.len() {
-        let end = fields::end_of(text, at, b'\n');
-        let taken = line_taken(&text[at..end], line, cells, n);
-        match taken {
-            Taken::Fault(number) => {
-                print_fault(output, number, line);
-                return;
-            }
-            Taken::Next(m) => {
-                n = m;
-            }
+fn from_lines(stdout: Stdout, text: &[u8]) {
+    let mut segments = Segments {
+        cells: [0; 16384],
+        count: 0,
+    };
+    for (i, line) in text.split_inclusive(|b| *b == b'\n').enumerate() {
+        if let Err(fault) = segments.take(i, without_feed(line)) {
+            print_fault(stdout, fault.number(), i + 1);
+            return;
         }
-        line += 1;
-        at = end + 1;
     }
-    print_text(output, cells, n);
+    segments.print(stdout);
 }
 
 // ---- the input
 
-// How many bytes there are without a line feed at the end.
-fn without_last(text: &[u8]) -> usize
-    ensures { result ≤ length text.now }
-{
-    let n = text.len();
-    if n == 0 {
-        return 0;
-    }
-    if text[n - 1] == b'\n' {
-        return n - 1;
-    }
-    n
+// What comes before a line feed at the end.
+fn without_feed(text: &[u8]) -> &[u8] {
+    text.strip_suffix(b"\n").unwrap_or(text)
 }
 
-fn turn(output: Stdout, text: &[u8], cells: &mut [i32])
-    requires { length cells.old ≡ 16384 }
-{
-    if text.len() == 0 {
-        from_text(output, text, cells);
-        return;
+fn turn(stdout: Stdout, text: &[u8]) {
+    if text.first() == Some(&b'T') {
+        from_lines(stdout, text);
+    } else {
+        from_text(stdout, without_feed(text));
     }
-    if text[0] == b'T' {
-        from_lines(output, text, cells);
-        return;
-    }
-    let n = without_last(text);
-    from_text(output, &text[..n], cells);
 }
 
 // Reads until the buffer is full or the input ends; how many bytes were read. A reading error ends it as the input's end does.
-fn read_full(mut input: Stdin, buffer: &mut [u8]) -> usize
+fn read_full(mut stdin: Stdin, buffer: &mut [u8]) -> usize
     ensures { (result ≤ length buffer.new) × (length buffer.new ≡ length buffer.old) }
 {
+    // Kept: a read gives as many bytes as there are, and std's `read_to_end` needs a heap, so the place is counted.
     let mut at = 0;
     while at < buffer.len() {
-        match input.read(&mut buffer[at..]) {
-            Err(_) => {
-                return at;
-            }
-            Ok(n) => {
-                if n == 0 {
-                    return at;
-                }
-                at += n;
-            }
+        let n = stdin.read(&mut buffer[at..]).unwrap_or(0);
+        if n == 0 {
+            break;
         }
+        at += n;
     }
     at
 }
 
 fn main(rt: HostRuntime) {
-    let output = rt.stdout();
-    let mut cells = [0i32; 16384];
+    let stdout = rt.stdout();
     let mut input = [0u8; 198000];
     let n = read_full(rt.stdin(), &mut input);
     if n == 198000 {
-        print_fault(output, 7, 0);
-        return;
+        print_fault(stdout, 7, 0);
+    } else {
+        turn(stdout, &input[..n]);
     }
-    turn(output, &input[..n], &mut cells);
 }

@@ -9,6 +9,8 @@ use Rattle.std.proofs.Math.Seq.{drop-cons}
 use Rattle.paper.specs.Lines.{is_digit, digit0, value_from, bytes}
 use Rattle.paper.specs.Wkt.{space, opening, closing, comma, capital, Token, word, number, mark, line_tokens, further_tokens, Digits, one, more, Spells, either_case, unsigned, positive, negative, itself, Kind, aWord, a_number, aMark, spaces, Spelled, end, then, Accepted, coordinates_of}
 use Rattle.paper.specs.declared.Segment.{Segment}
+use Rattle.axes.specs.declared.Word.{Word}
+use Rattle.axes.specs.declared.Word.TheVariants.{X1, Y1, X2, Y2}
 use Rattle.wkt_read.specs.declared.automaton.State.{State}
 use Rattle.wkt_read.specs.declared.automaton.State.TheVariants.{Start, Name, Named, Body, Empty, Line, Due, Signed, Number, After, More, End, Failed}
 use Rattle.wkt_read.specs.Machine.{name, empty, is_letter, is_sign, mark_after, past_mark, name_to, empty_to, onward, step_state, Reading, signed_value, to, step, run, at, start, run_append}
@@ -92,11 +94,11 @@ module _ (ns : List ℤ) where
       ∙ rest_of_empty 3 1 refl bs p.1
 
 -- ---- numbers
-abbrev within : ℕ → Bool → ℕ → List ℤ → Reading
+abbrev within : Word → Bool → ℕ → List ℤ → Reading
 within c n v ns = record { state = Number c; negative = n; value = v; numbers = ns }
 
 -- digits, where the first goes on to the number
-run_digits : (c : ℕ) (r : Reading) → ((b : ℕ) → is_digit b ≡ true → step_state r.state b ≡ Number c) → {ds : List ℕ} → Digits ds → run r ds ≡ within c r.negative (value_from r.value ds) r.numbers
+run_digits : (c : Word) (r : Reading) → ((b : ℕ) → is_digit b ≡ true → step_state r.state b ≡ Number c) → {ds : List ℕ} → Digits ds → run r ds ≡ within c r.negative (value_from r.value ds) r.numbers
 unfolding run value_from
 run_digits c r first (one b e) = ap (to r b) (first b e)
 run_digits c r first (more b {bs = ds} e d) =
@@ -104,13 +106,13 @@ run_digits c r first (more b {bs = ds} e d) =
     ∙ run_digits c (within c r.negative (10 * r.value + (b - digit0)) r.numbers)
     (λ b' e'. ap (λ t. cond t (Number c) (onward b' (mark_after c) (past_mark c) (After c))) e') d
 
-record Valued (c : ℕ) (ns : List ℤ) (z : ℤ) (bs : List ℕ) : Type 0 where
+record Valued (c : Word) (ns : List ℤ) (z : ℤ) (bs : List ℕ) : Type 0 where
   n : Bool
   v : ℕ
   is : signed_value n v ≡ z
   same : run (at (Due c) ns) bs ≡ within c n v ns
 
-run_number : (c : ℕ) (ns : List ℤ) {z : ℤ} {bs : List ℕ} → Spells (number z) bs → Valued c ns z bs
+run_number : (c : Word) (ns : List ℤ) {z : ℤ} {bs : List ℕ} → Spells (number z) bs → Valued c ns z bs
 unfolding run
 run_number c ns (unsigned ds d) = record {
   n = false;
@@ -144,13 +146,13 @@ read_mark : (r past : Reading) (m : ℕ) → step r space ≡ r → step r m ≡
 unfolding run
 read_mark r past m e f (then {rest = rest} gap h (itself b) left) = record { rest = rest; left = left; same = run_spaces r e gap (m ∷ rest) ∙ ap (λ x. run x rest) f }
 
-record Counted (c : ℕ) (ns : List ℤ) (z : ℤ) (text : List ℕ) (ts : List Token) : Type 0 where
+record Counted (c : Word) (ns : List ℤ) (z : ℤ) (text : List ℕ) (ts : List Token) : Type 0 where
   n : Bool
   v : ℕ
   is : signed_value n v ≡ z
   reached : Reaches (at (Due c) ns) text a_number ts (within c n v ns)
 
-read_number : (c : ℕ) (ns : List ℤ) {k : Kind} {z : ℤ} {ts : List Token} {text : List ℕ} → Spelled k (number z ∷ ts) text → Counted c ns z text ts
+read_number : (c : Word) (ns : List ℤ) {k : Kind} {z : ℤ} {ts : List Token} {text : List ℕ} → Spelled k (number z ∷ ts) text → Counted c ns z text ts
 read_number c ns (then {bs = bs} {rest = rest} gap h s left) =
     let q = run_number c ns s in
     record {
@@ -177,7 +179,7 @@ mark_number r loose past m e f g k (then {rest = rest} (suc gap) h (itself b) le
 }
 
 -- a point: coordinates c and d, and the mark after them
-module _ (c d m : ℕ) (p : State)
+module _ (c d : Word) (m : ℕ) (p : State)
     (parted : (n : Bool) (v : ℕ) (ns : List ℤ) → step (within c n v ns) space ≡ at (Due d) (ns ++ (signed_value n v ∷ [])))
     (tight : (n : Bool) (v : ℕ) (ns : List ℤ) → step (within d n v ns) m ≡ at p (ns ++ (signed_value n v ∷ [])))
     (loose : (n : Bool) (v : ℕ) (ns : List ℤ) → step (within d n v ns) space ≡ at (After d) (ns ++ (signed_value n v ∷ [])))
@@ -197,10 +199,10 @@ module _ (c d m : ℕ) (p : State)
 -- ---- lines
 read_line : (ns : List ℤ) (s : Segment) {k : Kind} {ts : List Token} {text : List ℕ} → Spelled k (line_tokens s ts) text → Reaches (at Line ns) text aMark ts (at More (ns ++ (s.x1 ∷ s.y1 ∷ s.x2 ∷ s.y2 ∷ [])))
 read_line ns s t =
-    let a = read_mark (at Line ns) (at (Due 0) ns) opening refl refl t in
+    let a = read_mark (at Line ns) (at (Due X1) ns) opening refl refl t in
     let l = ns ++ (s.x1 ∷ s.y1 ∷ []) in
-    let b = read_point 0 1 comma (Due 2) (λ n v u. refl) (λ n v u. refl) (λ n v u. refl) (λ u. refl) (λ u. refl) ns s.x1 s.y1 a.left in
-    let e = read_point 2 3 closing More (λ n v u. refl) (λ n v u. refl) (λ n v u. refl) (λ u. refl) (λ u. refl) l s.x2 s.y2 b.left in
+    let b = read_point X1 Y1 comma (Due X2) (λ n v u. refl) (λ n v u. refl) (λ n v u. refl) (λ u. refl) (λ u. refl) ns s.x1 s.y1 a.left in
+    let e = read_point X2 Y2 closing More (λ n v u. refl) (λ n v u. refl) (λ n v u. refl) (λ u. refl) (λ u. refl) l s.x2 s.y2 b.left in
     record {
       rest = e.rest;
       left = e.left;

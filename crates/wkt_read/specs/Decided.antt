@@ -1,11 +1,13 @@
 -- The automaton fails exactly where no accepted text can follow; so the place of a refusal is where it fails, and any two results of a reading are equal.
-use Rattle.std.specs.Prelude.{◌≡◌, refl, Bool, true, false, List, [], ◌∷◌, ◌++◌, ℕ, zero, suc, ◌-◌, ◌≤◌, ◌<◌, T, ℤ, length, take, drop}
+use Rattle.std.specs.Prelude.{◌≡◌, refl, Bool, true, false, List, [], ◌∷◌, ◌++◌, ℕ, suc, ◌-◌, ◌≤◌, ◌<◌, T, ℤ, length, take, drop}
 use Rattle.std.proofs.Common.{sym, ap, ◌∙◌, subst, arith, take-append-drop, take-take}
 use Rattle.lists.specs.Tests.{by_test, clash}
 use Rattle.lists.specs.Maps.{map_drop}
 use Rattle.paper.specs.Answers.{judged, refused, done}
 use Rattle.paper.specs.Results.{Result, over}
 use Rattle.paper.specs.Wkt.{space, opening, closing, comma, capital, Dead, Place, bad_text, coordinates_of, reader_order, Read, refuses, accepts}
+use Rattle.axes.specs.declared.Word.{Word}
+use Rattle.axes.specs.declared.Word.TheVariants.{X1, Y1, X2, Y2}
 use Rattle.wkt_read.specs.declared.automaton.State.{State}
 use Rattle.wkt_read.specs.declared.automaton.State.TheVariants.{Start, Name, Named, Body, Empty, Line, Due, Signed, Number, After, More, End, Failed}
 use Rattle.wkt_read.specs.Machine.{name, empty, step_state, ended, failed, Reading, to, step, run, at, start, run_append}
@@ -20,28 +22,26 @@ record Live (r : Reading) : Type 0 where
 abbrev line_end : List ℕ
 line_end = closing ∷ closing ∷ []
 
--- what follows coordinate c, and what follows where it is due
-abbrev afterwards : ℕ → List ℕ
-afterwards zero = space ∷ 48 ∷ comma ∷ 48 ∷ space ∷ 48 ∷ line_end
-afterwards (suc zero) = comma ∷ 48 ∷ space ∷ 48 ∷ line_end
-afterwards (suc (suc zero)) = space ∷ 48 ∷ line_end
-afterwards (suc (suc (suc c))) = line_end
+-- what follows a coordinate, and what follows where it is due
+abbrev afterwards : Word → List ℕ
+afterwards X1 = space ∷ 48 ∷ comma ∷ 48 ∷ space ∷ 48 ∷ line_end
+afterwards Y1 = comma ∷ 48 ∷ space ∷ 48 ∷ line_end
+afterwards X2 = space ∷ 48 ∷ line_end
+afterwards Y2 = line_end
 
-number_live : (c : ℕ) → c ≤ 3 → (n : Bool) (v : ℕ) (ns : List ℤ) → T (ended (run (record { state = Number c; negative = n; value = v; numbers = ns }) (afterwards c)).state)
+number_live : (c : Word) (n : Bool) (v : ℕ) (ns : List ℤ) → T (ended (run (record { state = Number c; negative = n; value = v; numbers = ns }) (afterwards c)).state)
 unfolding run
-number_live zero h n v ns = tt
-number_live (suc zero) h n v ns = tt
-number_live (suc (suc zero)) h n v ns = tt
-number_live (suc (suc (suc zero))) h n v ns = tt
-number_live (suc (suc (suc (suc c)))) h n v ns = absurd (omega arith)
+number_live X1 n v ns = tt
+number_live Y1 n v ns = tt
+number_live X2 n v ns = tt
+number_live Y2 n v ns = tt
 
-after_live : (c : ℕ) → c ≤ 3 → (ns : List ℤ) → T (ended (run (at (After c) ns) (afterwards c)).state)
+after_live : (c : Word) (ns : List ℤ) → T (ended (run (at (After c) ns) (afterwards c)).state)
 unfolding run
-after_live zero h ns = tt
-after_live (suc zero) h ns = tt
-after_live (suc (suc zero)) h ns = tt
-after_live (suc (suc (suc zero))) h ns = tt
-after_live (suc (suc (suc (suc c)))) h ns = absurd (omega arith)
+after_live X1 ns = tt
+after_live Y1 ns = tt
+after_live X2 ns = tt
+after_live Y2 ns = tt
 
 name_live : (k : ℕ) → k ≤ 14 → (ns : List ℤ) → T (ended (run (at (Name k) ns) (drop k name ++ (space ∷ empty))).state)
 unfolding run
@@ -60,11 +60,11 @@ live_at (Name k) ns h f = record { rest = drop k name ++ (space ∷ empty); ends
 live_at Named ns h f = record { rest = space ∷ empty; ends = tt }
 live_at Body ns h f = record { rest = empty; ends = tt }
 live_at (Empty k) ns h f = record { rest = drop k empty; ends = empty_live k h ns }
-live_at Line ns h f = record { rest = opening ∷ 48 ∷ afterwards 0; ends = tt }
-live_at (Due c) ns h f = record { rest = 48 ∷ afterwards c; ends = number_live c h false 0 ns }
-live_at (Signed c) ns h f = record { rest = 48 ∷ afterwards c; ends = number_live c h false 0 ns }
-live_at (Number c) ns h f = record { rest = afterwards c; ends = number_live c h false 0 ns }
-live_at (After c) ns h f = record { rest = afterwards c; ends = after_live c h ns }
+live_at Line ns h f = record { rest = opening ∷ 48 ∷ afterwards X1; ends = tt }
+live_at (Due c) ns h f = record { rest = 48 ∷ afterwards c; ends = number_live c false 0 ns }
+live_at (Signed c) ns h f = record { rest = 48 ∷ afterwards c; ends = number_live c false 0 ns }
+live_at (Number c) ns h f = record { rest = afterwards c; ends = number_live c false 0 ns }
+live_at (After c) ns h f = record { rest = afterwards c; ends = after_live c ns }
 live_at More ns h f = record { rest = closing ∷ []; ends = tt }
 live_at End ns h f = record { rest = []; ends = tt }
 live_at Failed ns h f = clash f
@@ -72,8 +72,8 @@ live_at Failed ns h f = clash f
 live : {r : Reading} → Shape r → failed r.state ≡ false → Live r
 unfolding run
 live (loose s ns h) f = live_at s ns h f
-live (signed c n ns h) f = record { rest = 48 ∷ afterwards c; ends = number_live c h n 0 ns }
-live (counted c n v ns h) f = record { rest = afterwards c; ends = number_live c h n v ns }
+live (signed c n ns) f = record { rest = 48 ∷ afterwards c; ends = number_live c n 0 ns }
+live (counted c n v ns) f = record { rest = afterwards c; ends = number_live c n v ns }
 
 -- ---- from the failed one none
 to_state : (r : Reading) (b : ℕ) (s : State) → (to r b s).state ≡ s

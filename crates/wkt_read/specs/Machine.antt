@@ -1,6 +1,8 @@
 -- The automaton: a state for each token that can be due and for each part of one that can have been read; the numbers read so far beside it.
 -- Use: `run start text` is what a text comes to. Assumes nothing.
-use Rattle.std.specs.Prelude.{◌≡◌, refl, Bool, true, false, cond, ◌&&◌, ◌||◌, List, [], ◌∷◌, ◌++◌, ℕ, ◌+◌, ◌-◌, ◌*◌, eqb, ℤ, pos, neg_ℤ, get_or}
+use Rattle.std.specs.Prelude.{◌≡◌, refl, Bool, true, false, cond, ◌&&◌, ◌||◌, List, [], ◌∷◌, ◌++◌, ℕ, ◌+◌, ◌-◌, ◌*◌, eqb, ℤ, pos, neg_ℤ, get_or, Option, Some, None}
+use Rattle.axes.specs.declared.Word.{Word}
+use Rattle.axes.specs.declared.Word.TheVariants.{X1, Y1, X2, Y2}
 use Rattle.paper.specs.Lines.{is_digit, digit0, minus}
 use Rattle.paper.specs.Wkt.{space, opening, closing, plus, comma, capital}
 use Rattle.wkt_read.specs.declared.automaton.State.{State}
@@ -24,12 +26,18 @@ is_sign b = eqb b plus || eqb b minus
 abbrev pub onward : ℕ → ℕ → State → State → State
 onward b mark past stay = cond (eqb b mark) past (cond (eqb b space) stay Failed)
 
--- what follows coordinate c: a space parts x from y, a comma the points, and the line is closed
-abbrev pub mark_after : ℕ → ℕ
-mark_after c = cond (eqb c 1) comma (cond (eqb c 3) closing space)
+-- what follows a coordinate: a space parts x from y, a comma the points, and the line is closed
+abbrev pub mark_after : Word → ℕ
+mark_after X1 = space
+mark_after Y1 = comma
+mark_after X2 = space
+mark_after Y2 = closing
 
-abbrev pub past_mark : ℕ → State
-past_mark c = cond (eqb c 3) More (Due (c + 1))
+abbrev pub past_mark : Word → State
+past_mark X1 = Due Y1
+past_mark Y1 = Due X2
+past_mark X2 = Due Y2
+past_mark Y2 = More
 
 abbrev pub name_to : ℕ → State
 name_to k = cond (eqb k 14) Named (Name (k + 1))
@@ -44,7 +52,7 @@ step_state (Name k) b = cond (is_letter name k b) (name_to k) Failed
 step_state Named b = onward b opening Line Body
 step_state Body b = cond (is_letter empty 0 b) (Empty 1) (onward b opening Line Body)
 step_state (Empty k) b = cond (is_letter empty k b) (empty_to k) Failed
-step_state Line b = onward b opening (Due 0) Line
+step_state Line b = onward b opening (Due X1) Line
 step_state (Due c) b = cond (is_digit b) (Number c) (cond (is_sign b) (Signed c) (cond (eqb b space) (Due c) Failed))
 step_state (Signed c) b = cond (is_digit b) (Number c) Failed
 step_state (Number c) b = cond (is_digit b) (Number c) (onward b (mark_after c) (past_mark c) (After c))
@@ -54,48 +62,81 @@ step_state End b = cond (eqb b space) End Failed
 step_state Failed b = Failed
 
 -- the states that are told apart: where a sign has been read, in a number, at the end, failed
-abbrev pub sort_of : State → ℕ
-sort_of Start = 0
-sort_of (Name k) = 0
-sort_of Named = 0
-sort_of Body = 0
-sort_of (Empty k) = 0
-sort_of Line = 0
-sort_of (Due c) = 0
-sort_of (Signed c) = 1
-sort_of (Number c) = 2
-sort_of (After c) = 0
-sort_of More = 0
-sort_of End = 3
-sort_of Failed = 4
-
 abbrev pub is_signed : State → Bool
-is_signed s = eqb (sort_of s) 1
+is_signed Start = false
+is_signed (Name k) = false
+is_signed Named = false
+is_signed Body = false
+is_signed (Empty k) = false
+is_signed Line = false
+is_signed (Due c) = false
+is_signed (Signed c) = true
+is_signed (Number c) = false
+is_signed (After c) = false
+is_signed More = false
+is_signed End = false
+is_signed Failed = false
 
 abbrev pub in_number : State → Bool
-in_number s = eqb (sort_of s) 2
+in_number Start = false
+in_number (Name k) = false
+in_number Named = false
+in_number Body = false
+in_number (Empty k) = false
+in_number Line = false
+in_number (Due c) = false
+in_number (Signed c) = false
+in_number (Number c) = true
+in_number (After c) = false
+in_number More = false
+in_number End = false
+in_number Failed = false
 
 abbrev pub ended : State → Bool
-ended s = eqb (sort_of s) 3
+ended Start = false
+ended (Name k) = false
+ended Named = false
+ended Body = false
+ended (Empty k) = false
+ended Line = false
+ended (Due c) = false
+ended (Signed c) = false
+ended (Number c) = false
+ended (After c) = false
+ended More = false
+ended End = true
+ended Failed = false
 
 abbrev pub failed : State → Bool
-failed s = eqb (sort_of s) 4
+failed Start = false
+failed (Name k) = false
+failed Named = false
+failed Body = false
+failed (Empty k) = false
+failed Line = false
+failed (Due c) = false
+failed (Signed c) = false
+failed (Number c) = false
+failed (After c) = false
+failed More = false
+failed End = false
+failed Failed = true
 
--- the coordinate that a digit would belong to, or 4 where none may stand
-abbrev pub digit_place : State → ℕ
-digit_place Start = 4
-digit_place (Name k) = 4
-digit_place Named = 4
-digit_place Body = 4
-digit_place (Empty k) = 4
-digit_place Line = 4
-digit_place (Due c) = c
-digit_place (Signed c) = c
-digit_place (Number c) = c
-digit_place (After c) = 4
-digit_place More = 4
-digit_place End = 4
-digit_place Failed = 4
+-- the coordinate that a digit would belong to, where one may stand
+abbrev pub digit_place : State → Option Word
+digit_place Start = None
+digit_place (Name k) = None
+digit_place Named = None
+digit_place Body = None
+digit_place (Empty k) = None
+digit_place Line = None
+digit_place (Due c) = Some c
+digit_place (Signed c) = Some c
+digit_place (Number c) = Some c
+digit_place (After c) = None
+digit_place More = None
+digit_place End = None
+digit_place Failed = None
 
 -- a state with what has been read: the sign and value of the number that is being read, and the numbers before it
 pub record Reading : Type 0 where

@@ -1,28 +1,26 @@
 -- What a pass over a text keeps true: it is judged, and where cells are filled its numbers are written into them.
-use Rattle.std.specs.Prelude.{◌≡◌, refl, Bool, true, false, ◌&&◌, List, [], ◌∷◌, ◌++◌, map, ℕ, suc, ◌+◌, ◌≤◌, ◌<◌, eqb, ℤ, length, take, drop, get_or, set}
-use Rattle.std.proofs.Common.{sym, ap, ap₂, ◌∙◌, arith, add-one, length-append, take-append-drop, take-suc, take_all, eqb-true}
+use Rattle.std.specs.Prelude.{◌≡◌, refl, true, false, List, [], ◌∷◌, ◌++◌, map, Result, Ok, Err, ℕ, suc, ◌+◌, ◌≤◌, ◌<◌, ℤ, length, take, drop, get_or, set}
+use Rattle.std.proofs.Common.{sym, ap, ap₂, ◌∙◌, arith, add-one, length-append, take-append-drop, take-suc, take_all}
 use Rattle.std.proofs.Math.Path.{subst}
 use Rattle.std.proofs.lemmas.List.{map-append, length-map}
 use Rattle.std.proofs.Math.ListN.{length-take}
-use Rattle.lists.specs.Tests.{by_test, clash}
+use Rattle.lists.specs.Tests.{clash}
 use Rattle.lists.specs.Filling.{filled_all, filled_length, filled_more}
 use Rattle.paper.specs.Results.{over}
 use Rattle.paper.specs.Wkt.{Place}
 use Rattle.wkt_read.specs.declared.automaton.State.{State}
-use Rattle.wkt_read.specs.declared.automaton.State.TheVariants.{Start}
+use Rattle.wkt_read.specs.declared.automaton.State.TheVariants.{Start, Name, Named, Body, Empty, Line, Due, Signed, Number, After, More, End, Failed}
 use Rattle.wkt_read.specs.declared.Reader.{Reader}
 use Rattle.wkt_read.specs.declared.Tally.{Tally}
-use Rattle.wkt_read.specs.declared.Judged.{Judged}
-use Rattle.wkt_read.specs.Machine.{sort_of, step_state, ended, failed, Reading, signed_value, step, run, start, run_append, run_snoc}
+use Rattle.wkt_read.specs.Machine.{step_state, ended, failed, Reading, signed_value, step, run, start, run_append, run_snoc}
 use Rattle.wkt_read.specs.Sound.{Bound, Shape, loose, signed, counted as inside, shape_run, shape_start}
 use Rattle.wkt_read.specs.Decided.{state_step, failed_more, place_at}
 use Rattle.wkt_read.specs.Tally.{shown, read_on, shown_step, ends_number, fitting_of, fitting_le, counted, tally_of, tally_step, ends_yes, ends_no, run_grows, clipped, clipped_signed}
 
--- what a judged text says
-pub record IsJudged (text : List ℕ) (j : Judged) : Type 0 where
-  pub accepted : j.accepted ≡ ended (run start text).state
-  pub place : j.accepted ≡ false → Place text j.place
-  pub tally : j.accepted ≡ true → j.tally ≡ tally_of (run start text).numbers
+-- what a judged text says: accepted with the tally of its numbers, or refused at a place
+abbrev pub IsJudged : List ℕ → Result Tally ℕ → Type 0
+IsJudged text (Ok t) = (ended (run start text).state ≡ true) × (t ≡ tally_of (run start text).numbers)
+IsJudged text (Err place) = (ended (run start text).state ≡ false) × Place text place
 
 -- ---- one byte more
 abbrev pub up_to : List ℕ → ℕ → Reading
@@ -33,8 +31,8 @@ next text i h = ap (λ k. run start (take k text)) (add-one i) ∙ ap (run start
 
 shape_bound : {r : Reading} → Shape r → Bound r.state
 shape_bound (loose s ns h) = h
-shape_bound (signed c n ns h) = h
-shape_bound (inside c n v ns h) = h
+shape_bound (signed c n ns) = tt
+shape_bound (inside c n v ns) = tt
 
 shown_state : (r : Reading) (b : ℕ) → (read_on (shown r) b).state ≡ step_state r.state b
 shown_state r b = ap (λ (h : Reader). h.state) (sym (shown_step r b)) ∙ state_step r b
@@ -45,16 +43,39 @@ reader_bound text i e =
     let s = shape_bound (shape_run (take i text) shape_start) in
     subst (λ (x : Reader). Bound x.state × (x.value ≤ 536870913)) (sym e) (s, omega arith)
 
+-- the reader and the tally before the first byte
+pub reader_start : {h : Reader} → (h.state ≡ Start) × ((h.negative ≡ false) × (h.value ≡ 0)) → h ≡ shown start
+reader_start e = λ k. record { state = e.0 k; negative = e.1.0 k; value = e.1.1 k }
+
+pub tally_start : {t : Tally} → (t.numbers ≡ 0) × (t.fitting ≡ 0) → t ≡ tally_of []
+unfolding fitting_of
+tally_start e = λ k. record { numbers = e.0 k; fitting = e.1 k }
+
 -- ---- judging
+failed_unended : (s : State) → failed s ≡ true → ended s ≡ false
+failed_unended Start e = refl
+failed_unended (Name k) e = refl
+failed_unended Named e = refl
+failed_unended Body e = refl
+failed_unended (Empty k) e = refl
+failed_unended Line e = refl
+failed_unended (Due c) e = refl
+failed_unended (Signed c) e = refl
+failed_unended (Number c) e = refl
+failed_unended (After c) e = refl
+failed_unended More e = refl
+failed_unended End e = clash (sym e)
+failed_unended Failed e = refl
+
 pub record Judging (text : List ℕ) (h : Reader) (t : Tally) (i : ℕ) : Type 0 where
   pub within : i ≤ length text
   pub reader : h ≡ shown (up_to text i)
   pub tally : t ≡ tally_of (up_to text i).numbers
   pub alive : failed (up_to text i).state ≡ false
 
-pub judging_start : (text : List ℕ) → Judging text (record { state = Start; negative = false; value = 0 }) (record { numbers = 0; fitting = 0 }) 0
-unfolding run fitting_of
-judging_start text = record { within = omega arith; reader = refl; tally = refl; alive = refl }
+pub judging_start : (text : List ℕ) {h : Reader} {t : Tally} → h ≡ shown start → t ≡ tally_of [] → Judging text h t 0
+unfolding run
+judging_start text e f = record { within = omega arith; reader = e; tally = f; alive = refl }
 
 module _ {text : List ℕ} {h : Reader} {t : Tally} {i : ℕ} (j : Judging text h t i) where
   -- what `counted` asks
@@ -80,22 +101,25 @@ module _ {text : List ℕ} {h : Reader} {t : Tally} {i : ℕ} (j : Judging text 
       alive = ap (λ (x : Reader). failed x.state) (sym reads) ∙ f;
     }
 
-    pub judged_failed : failed n.state ≡ true → IsJudged text (record { accepted = false; place = i; tally = t })
+    pub judged_failed : failed n.state ≡ true → IsJudged text (Err i)
     judged_failed f =
         let dead : failed (run start (take (suc i) text)).state ≡ true = ap (λ k. failed (run start (take k text)).state) (sym (add-one i)) ∙ ap (λ (x : Reader). failed x.state) (sym reads) ∙ f in
         let whole : failed (run start text).state ≡ true = ap (λ x. failed (run start x).state) (sym (take-append-drop (suc i) text)) ∙ failed_more (take (suc i) text) (drop (suc i) text) dead in
-        let unended : ended (run start text).state ≡ false = ap (λ k. eqb k 3) (eqb-true (sort_of (run start text).state) 4 whole) in
-        record { accepted = sym unended; place = λ q. place_at text i (omega arith) j.alive (λ q'. dead) unended; tally = λ q. clash (sym q) }
+        let unended : ended (run start text).state ≡ false = failed_unended (run start text).state whole in
+        (unended, place_at text i (omega arith) j.alive (λ q. dead) unended)
 
-  pub judged_end : length text ≤ i → {a : Bool} → a ≡ ended h.state → IsJudged text (record { accepted = a; place = i; tally = t })
-  judged_end l e =
-      let all : take i text ≡ text = take_all i text l in
-      let a = e ∙ ap (λ (x : Reader). ended x.state) j.reader ∙ ap (λ x. ended (run start x).state) all in
-      record {
-        accepted = a;
-        place = λ q. place_at text i j.within j.alive (λ q'. absurd (omega arith)) (sym a ∙ q);
-        tally = λ q. j.tally ∙ ap (λ x. tally_of (run start x).numbers) all;
-      }
+  module _ (l : length text ≤ i) where
+    ended_is : ended h.state ≡ ended (run start text).state
+    ended_is = ap (λ (x : Reader). ended x.state) j.reader ∙ ap (λ x. ended (run start x).state) (take_all i text l)
+
+    pub judged_ended : ended h.state ≡ true → IsJudged text (Ok t)
+    judged_ended e = (sym ended_is ∙ e, j.tally ∙ ap (λ x. tally_of (run start x).numbers) (take_all i text l))
+
+    pub judged_short : ended h.state ≡ false → IsJudged text (Err (length text))
+    judged_short e =
+        let i_is : i ≡ length text = omega (arith, j.within) in
+        let unended = sym ended_is ∙ e in
+        (unended, place_at text (length text) (omega arith) (ap (λ k. failed (run start (take k text)).state) (sym i_is) ∙ j.alive) (λ q. absurd (omega arith)) unended)
 
 -- ---- filling
 
@@ -108,22 +132,15 @@ over_step xs cells z h =
     ∙ filled_more xs z cells
     ∙ filled_all (xs ++ (z ∷ [])) cells (omega (arith, length-append xs (z ∷ [])))
 
--- the cells after a byte: a number that has ended is written where cells are filled, and otherwise nothing is
-pub record Kept (fills : Bool) (h : Reader) (s : State) (k : ℕ) (before after : List ℤ) : Type 0 where
-  pub none : fills && ends_number h s ≡ false → after ≡ before
-  pub one : fills && ends_number h s ≡ true → after ≡ set before k (signed_value h.negative h.value)
-
-pub kept_none : {fills : Bool} (h : Reader) (s : State) {k : ℕ} {cells : List ℤ} → fills && ends_number h s ≡ false → Kept fills h s k cells cells
-kept_none h s e = record { none = λ q. refl; one = λ q. clash (sym q ∙ e) }
-
-pub kept_one : {fills : Bool} (h : Reader) (s : State) {k : ℕ} {cells after : List ℤ} → fills && ends_number h s ≡ true → after ≡ set cells k (signed_value h.negative h.value) → Kept fills h s k cells after
-kept_one h s e f = record { none = λ q. clash (sym e ∙ q); one = λ q. f }
-
 pub record Filling (text : List ℕ) (before : List ℤ) (h : Reader) (k i : ℕ) (cells : List ℤ) : Type 0 where
   pub within : i ≤ length text
   pub reader : h ≡ shown (up_to text i)
   pub count : k ≡ length (up_to text i).numbers
   pub wrote : cells ≡ over (map clipped (up_to text i).numbers) before
+
+pub filling_start : (text : List ℕ) (before : List ℤ) {h : Reader} → h ≡ shown start → Filling text before h 0 0 before
+unfolding run
+filling_start text before e = record { within = omega arith; reader = e; count = refl; wrote = refl }
 
 module _ {text : List ℕ} {before : List ℤ} {h : Reader} {k i : ℕ} {cells : List ℤ} (room : length (run start text).numbers ≤ length before) (f : Filling text before h k i cells) where
   few : (m : ℕ) → length (up_to text m).numbers ≤ length before
@@ -145,10 +162,10 @@ module _ {text : List ℕ} {before : List ℤ} {h : Reader} {k i : ℕ} {cells :
     ends : ends_number (shown (up_to text i)) (step_state (up_to text i).state (get_or text i 0)) ≡ ends_number h n.state
     ends = sym (λ p. ends_number (f.reader p) (goes' p))
 
-    pub filling_skip : ends_number h n.state ≡ false → Filling text before n k (i + 1) cells
-    filling_skip q =
+    pub filling_skip : ends_number h n.state ≡ false → {k' : ℕ} → k' ≡ k → {after : List ℤ} → after ≡ cells → Filling text before n k' (i + 1) after
+    filling_skip q p w =
         let same : (up_to text (i + 1)).numbers ≡ (up_to text i).numbers = ap (λ x. x.numbers) (next text i l) ∙ ends_no (up_to text i) (get_or text i 0) (ends ∙ q) in
-        record { within = omega arith; reader = reads'; count = f.count ∙ ap length (sym same); wrote = f.wrote ∙ ap (λ x. over (map clipped x) before) (sym same) }
+        record { within = omega arith; reader = reads'; count = p ∙ f.count ∙ ap length (sym same); wrote = w ∙ f.wrote ∙ ap (λ x. over (map clipped x) before) (sym same) }
 
     module _ (q : ends_number h n.state ≡ true) where
       grew : (up_to text (i + 1)).numbers ≡ (up_to text i).numbers ++ (signed_value (up_to text i).negative (up_to text i).value ∷ [])
@@ -160,8 +177,8 @@ module _ {text : List ℕ} {before : List ℤ} {h : Reader} {k i : ℕ} {cells :
       pub filling_room : k < length cells
       filling_room = omega (arith, few (i + 1), longer, f.count, filling_length)
 
-      pub filling_write : {z : ℤ} → z ≡ signed_value h.negative h.value → Filling text before n (k + 1) (i + 1) (set cells k z)
-      filling_write {z} e' =
+      pub filling_write : {k' : ℕ} → k' ≡ k + 1 → {after : List ℤ} {z : ℤ} → after ≡ set cells k z → z ≡ signed_value h.negative h.value → Filling text before n k' (i + 1) after
+      filling_write p {z = z} w e' =
           let ns = (up_to text i).numbers in
           let y = signed_value (up_to text i).negative (up_to text i).value in
           let kk : k ≡ length (map clipped ns) = f.count ∙ sym (length-map ns clipped) in
@@ -169,39 +186,13 @@ module _ {text : List ℕ} {before : List ℤ} {h : Reader} {k i : ℕ} {cells :
           record {
             within = omega arith;
             reader = reads';
-            count = omega (arith, f.count, longer);
-            wrote = (λ p. set (f.wrote p) (kk p) (zz p))
+            count = omega (arith, p, f.count, longer);
+            wrote = w
+                ∙ (λ p. set (f.wrote p) (kk p) (zz p))
                 ∙ over_step (map clipped ns) before (clipped y) (omega (arith, few (i + 1), longer, length-map ns clipped))
                 ∙ ap (λ l. over l before) (sym (map-append clipped ns (y ∷ [])))
                 ∙ ap (λ x. over (map clipped x) before) (sym grew);
           }
 
-    filling_next : {after : List ℤ} → Kept true h n.state k cells after → after ≡ over (map clipped (up_to text (i + 1)).numbers) before
-    filling_next w = by_test (ends_number h n.state) (λ q. w.one q ∙ (filling_write q refl).wrote) (λ q. w.none q ∙ (filling_skip q).wrote)
-
--- the cells after i bytes
-abbrev pub Wrote : Bool → List ℕ → List ℤ → ℕ → List ℤ → Type 0
-Wrote true text before i cells = cells ≡ over (map clipped (up_to text i).numbers) before
-Wrote false text before i cells = cells ≡ before
-
-pub wrote_start : (fills : Bool) (text : List ℕ) (before : List ℤ) → Wrote fills text before 0 before
-unfolding run
-wrote_start true text before = refl
-wrote_start false text before = refl
-
-module _ (before cells : List ℤ) {text : List ℕ} {h : Reader} {t : Tally} {i : ℕ} (j : Judging text h t i) where
-  filling : Wrote true text before i cells → Filling text before h t.numbers i cells
-  filling w = record { within = j.within; reader = j.reader; count = ap (λ x. x.numbers) j.tally; wrote = w }
-
-  pub wrote_end : (fills : Bool) → fills ≡ true → length text ≤ i → Wrote fills text before i cells → cells ≡ over (map clipped (run start text).numbers) before
-  wrote_end true f l w = w ∙ ap (λ x. over (map clipped (run start x).numbers) before) (take_all i text l)
-  wrote_end false f l w = clash (sym f)
-
-  module _ (l : i < length text) {b : ℕ} (e : b ≡ get_or text i 0) {n : Reader} (r : n ≡ read_on h b) where
-    pub wrote_room : (fills : Bool) → (fills ≡ true → length (run start text).numbers ≤ length before) → Wrote fills text before i cells → fills ≡ true → ends_number h n.state ≡ true → t.numbers < length cells
-    wrote_room true room w f q = filling_room (room refl) (filling w) l e r q
-    wrote_room false room w f q = clash (sym f)
-
-    pub wrote_next : (fills : Bool) → (fills ≡ true → length (run start text).numbers ≤ length before) → Wrote fills text before i cells → {after : List ℤ} → Kept fills h n.state t.numbers cells after → Wrote fills text before (i + 1) after
-    wrote_next true room w k = filling_next (room refl) (filling w) l e r k
-    wrote_next false room w k = k.none refl ∙ w
+  pub filling_end : length text ≤ i → cells ≡ over (map clipped (run start text).numbers) before
+  filling_end l = f.wrote ∙ ap (λ x. over (map clipped (run start x).numbers) before) (take_all i text l)

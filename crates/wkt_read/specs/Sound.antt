@@ -1,5 +1,5 @@
 -- What the automaton reads to its end `paper` accepts: from each state back, byte by byte, what was read spells the tokens that were due.
-use Rattle.std.specs.Prelude.{◌≡◌, refl, Bool, true, false, cond, ◌||◌, List, [], ◌∷◌, ◌++◌, map, ℕ, zero, suc, ◌+◌, ◌-◌, ◌*◌, ◌≤◌, ◌<◌, T, eqb, ℤ, pos, neg_ℤ, length, get_or, drop}
+use Rattle.std.specs.Prelude.{◌≡◌, refl, Bool, true, false, cond, ◌||◌, List, [], ◌∷◌, ◌++◌, map, ℕ, suc, ◌+◌, ◌-◌, ◌*◌, ◌≤◌, ◌<◌, T, eqb, ℤ, pos, neg_ℤ, length, get_or, drop}
 use Rattle.std.proofs.Common.{sym, ap₂, ◌∙◌, subst, append_assoc, append-nil, arith, add-one, drop_of_length-le, drop-cons, eqb-true}
 use Rattle.std.proofs.Math.Path.{ap}
 use Rattle.std.proofs.lemmas.Bool.{eqb-false}
@@ -8,12 +8,14 @@ use Rattle.lists.specs.Every.{All}
 use Rattle.paper.specs.Lines.{is_digit, digit0, minus, value_from, bytes}
 use Rattle.paper.specs.Wkt.{space, opening, closing, plus, comma, capital, Token, word, number, mark, further_tokens, tokens_of, Digits, one, more, Spells, either_case, unsigned, positive, negative, itself, Kind, aWord, a_number, aMark, kind_of, parting, Spelled, end, then, Accepted, coordinates_of}
 use Rattle.paper.specs.declared.Segment.{Segment}
+use Rattle.axes.specs.declared.Word.{Word}
+use Rattle.axes.specs.declared.Word.TheVariants.{X1, Y1, X2, Y2}
 use Rattle.wkt_read.specs.declared.automaton.State.{State}
 use Rattle.wkt_read.specs.declared.automaton.State.TheVariants.{Start, Name, Named, Body, Empty, Line, Due, Signed, Number, After, More, End, Failed}
 use Rattle.wkt_read.specs.Machine.{name, empty, is_letter, is_sign, onward, mark_after, past_mark, name_to, empty_to, step_state, ended, Reading, signed_value, finished, to, step, run, at, start}
 use Rattle.wkt_read.specs.Complete.{name_bytes, empty_bytes}
 
--- ---- the states that are met: letters and coordinates within their counts, no sign or value but in a number
+-- ---- the states that are met: letters within their counts, no sign or value but in a number
 abbrev pub Bound : State → Type 0
 Bound Start = Unit {0}
 Bound (Name k) = k ≤ 14
@@ -21,18 +23,18 @@ Bound Named = Unit {0}
 Bound Body = Unit {0}
 Bound (Empty k) = k ≤ 4
 Bound Line = Unit {0}
-Bound (Due c) = c ≤ 3
-Bound (Signed c) = c ≤ 3
-Bound (Number c) = c ≤ 3
-Bound (After c) = c ≤ 3
+Bound (Due c) = Unit {0}
+Bound (Signed c) = Unit {0}
+Bound (Number c) = Unit {0}
+Bound (After c) = Unit {0}
 Bound More = Unit {0}
 Bound End = Unit {0}
 Bound Failed = Unit {0}
 
 pub data Shape : Reading → Type 0 where
   loose : (s : State) (ns : List ℤ) → Bound s → Shape (at s ns)
-  signed : (c : ℕ) (n : Bool) (ns : List ℤ) → c ≤ 3 → Shape (record { state = Signed c; negative = n; value = 0; numbers = ns })
-  counted : (c : ℕ) (n : Bool) (v : ℕ) (ns : List ℤ) → c ≤ 3 → Shape (record { state = Number c; negative = n; value = v; numbers = ns })
+  signed : (c : Word) (n : Bool) (ns : List ℤ) → Shape (record { state = Signed c; negative = n; value = 0; numbers = ns })
+  counted : (c : Word) (n : Bool) (v : ℕ) (ns : List ℤ) → Shape (record { state = Number c; negative = n; value = v; numbers = ns })
 
 bound_if : (t : Bool) (x y : State) → Bound x → Bound y → Bound (cond t x y)
 bound_if true x y h k = h
@@ -53,11 +55,11 @@ bound_empty k h = by_test (eqb k 4) (λ e. subst (λ t. Bound (cond t End (Empty
     less : (k ≡ 4 → ⊥) → k + 1 ≤ 4
     less n = omega arith
 
-bound_past : (c : ℕ) → c ≤ 3 → Bound (past_mark c)
-bound_past c h = by_test (eqb c 3) (λ e. subst (λ t. Bound (cond t More (Due (c + 1)))) (sym e) tt) (λ e. subst (λ t. Bound (cond t More (Due (c + 1)))) (sym e) (less (eqb-false c 3 e)))
-  where
-    less : (c ≡ 3 → ⊥) → c + 1 ≤ 3
-    less n = omega arith
+bound_past : (c : Word) → Bound (past_mark c)
+bound_past X1 = tt
+bound_past Y1 = tt
+bound_past X2 = tt
+bound_past Y2 = tt
 
 bound_step : (s : State) (b : ℕ) → Bound s → Bound (step_state s b)
 bound_step Start b h = bound_if (is_letter name 0 b) (Name 1) (cond (eqb b space) Start Failed) (omega arith) (bound_if (eqb b space) Start Failed tt tt)
@@ -65,13 +67,13 @@ bound_step (Name k) b h = bound_if (is_letter name k b) (name_to k) Failed (boun
 bound_step Named b h = bound_onward b opening Line Body tt tt
 bound_step Body b h = bound_if (is_letter empty 0 b) (Empty 1) (onward b opening Line Body) (omega arith) (bound_onward b opening Line Body tt tt)
 bound_step (Empty k) b h = bound_if (is_letter empty k b) (empty_to k) Failed (bound_empty k h) tt
-bound_step Line b h = bound_onward b opening (Due 0) Line (omega arith) tt
+bound_step Line b h = bound_onward b opening (Due X1) Line tt tt
 bound_step (Due c) b h =
     bound_if (is_digit b) (Number c) (cond (is_sign b) (Signed c) (cond (eqb b space) (Due c) Failed)) h
     (bound_if (is_sign b) (Signed c) (cond (eqb b space) (Due c) Failed) h (bound_if (eqb b space) (Due c) Failed h tt))
 bound_step (Signed c) b h = bound_if (is_digit b) (Number c) Failed h tt
-bound_step (Number c) b h = bound_if (is_digit b) (Number c) (onward b (mark_after c) (past_mark c) (After c)) h (bound_onward b (mark_after c) (past_mark c) (After c) (bound_past c h) h)
-bound_step (After c) b h = bound_onward b (mark_after c) (past_mark c) (After c) (bound_past c h) h
+bound_step (Number c) b h = bound_if (is_digit b) (Number c) (onward b (mark_after c) (past_mark c) (After c)) h (bound_onward b (mark_after c) (past_mark c) (After c) (bound_past c) h)
+bound_step (After c) b h = bound_onward b (mark_after c) (past_mark c) (After c) (bound_past c) h
 bound_step More b h = bound_if (eqb b comma) Line (onward b closing End More) tt (bound_onward b closing End More tt tt)
 bound_step End b h = bound_if (eqb b space) End Failed tt tt
 bound_step Failed b h = tt
@@ -84,8 +86,8 @@ shape_to r b Body h = loose Body (finished r) h
 shape_to r b (Empty k) h = loose (Empty k) (finished r) h
 shape_to r b Line h = loose Line (finished r) h
 shape_to r b (Due c) h = loose (Due c) (finished r) h
-shape_to r b (Signed c) h = signed c (eqb b minus) (finished r) h
-shape_to r b (Number c) h = counted c r.negative (10 * r.value + (b - digit0)) r.numbers h
+shape_to r b (Signed c) h = signed c (eqb b minus) (finished r)
+shape_to r b (Number c) h = counted c r.negative (10 * r.value + (b - digit0)) r.numbers
 shape_to r b (After c) h = loose (After c) (finished r) h
 shape_to r b More h = loose More (finished r) h
 shape_to r b End h = loose End (finished r) h
@@ -93,8 +95,8 @@ shape_to r b Failed h = loose Failed (finished r) h
 
 pub shape_step : {r : Reading} → Shape r → (b : ℕ) → Shape (step r b)
 shape_step (loose s ns h) b = shape_to (at s ns) b (step_state s b) (bound_step s b h)
-shape_step (signed c n ns h) b = shape_to (record { state = Signed c; negative = n; value = 0; numbers = ns }) b (step_state (Signed c) b) (bound_step (Signed c) b h)
-shape_step (counted c n v ns h) b = shape_to (record { state = Number c; negative = n; value = v; numbers = ns }) b (step_state (Number c) b) (bound_step (Number c) b h)
+shape_step (signed c n ns) b = shape_to (record { state = Signed c; negative = n; value = 0; numbers = ns }) b (step_state (Signed c) b) (bound_step (Signed c) b tt)
+shape_step (counted c n v ns) b = shape_to (record { state = Number c; negative = n; value = v; numbers = ns }) b (step_state (Number c) b) (bound_step (Number c) b tt)
 
 pub shape_run : (bs : List ℕ) {r : Reading} → Shape r → Shape (run r bs)
 unfolding run
@@ -123,24 +125,24 @@ data Tail : Spot → List Token → List ℤ → Type 0 where
   closed : {ts : List Token} {zs : List ℤ} → Tail atEnd ts zs → Tail atMore (mark closing ∷ ts) zs
   done : Tail atEnd [] []
 
--- coordinate c, and what follows it
-abbrev coordinate : ℕ → Spot
-coordinate zero = atX1
-coordinate (suc zero) = atY1
-coordinate (suc (suc zero)) = atX2
-coordinate (suc (suc (suc c))) = atY2
+-- a coordinate, and what follows it
+abbrev coordinate : Word → Spot
+coordinate X1 = atX1
+coordinate Y1 = atY1
+coordinate X2 = atX2
+coordinate Y2 = atY2
 
-abbrev after : ℕ → Spot
-after zero = atY1
-after (suc zero) = atComma
-after (suc (suc zero)) = atY2
-after (suc (suc (suc c))) = atClose
+abbrev after : Word → Spot
+after X1 = atY1
+after Y1 = atComma
+after X2 = atY2
+after Y2 = atClose
 
-valued : (c : ℕ) {z : ℤ} {ts : List Token} {zs : List ℤ} → Tail (after c) ts zs → Tail (coordinate c) (number z ∷ ts) (z ∷ zs)
-valued zero t = x1 t
-valued (suc zero) t = y1 t
-valued (suc (suc zero)) t = x2 t
-valued (suc (suc (suc c))) t = y2 t
+valued : (c : Word) {z : ℤ} {ts : List Token} {zs : List ℤ} → Tail (after c) ts zs → Tail (coordinate c) (number z ∷ ts) (z ∷ zs)
+valued X1 t = x1 t
+valued Y1 t = y1 t
+valued X2 t = x2 t
+valued Y2 t = y2 t
 
 -- ---- the tokens after one of a kind that the bytes spell, and the numbers at the end
 record Goes (before : Kind) (spot : Spot) (ns : List ℤ) (rest : List ℕ) (final : List ℤ) : Type 0 where
@@ -182,7 +184,7 @@ module _ {ns : List ℤ} {rest : List ℕ} {final : List ℤ} where
       subst (λ x. Goes k spot ns (x ∷ rest) final) (sym (eqb-true b m e))
       (record { tokens = mark m ∷ g.tokens; numbers = g.numbers; left = then {before = k} {token = mark m} 0 (parting_mark k) (itself m) g.left; tail = f g.tokens g.numbers g.tail; sum = g.sum })
 
-  add_number : (c : ℕ) (z : ℤ) {bs : List ℕ} → Spells (number z) bs → Goes a_number (after c) (ns ++ (z ∷ [])) rest final → Goes aMark (coordinate c) ns (bs ++ rest) final
+  add_number : (c : Word) (z : ℤ) {bs : List ℕ} → Spells (number z) bs → Goes a_number (after c) (ns ++ (z ∷ [])) rest final → Goes aMark (coordinate c) ns (bs ++ rest) final
   add_number c z s g = record {
     tokens = number z ∷ g.tokens;
     numbers = z ∷ g.numbers;
@@ -211,7 +213,7 @@ record WordLeft (letters : List ℕ) (spot : Spot) (ns : List ℤ) (rest : List 
   spelled : map capital bs ≡ letters
   goes : Goes aWord spot ns behind final
 
-record DigitsLeft (c : ℕ) (n : Bool) (v : ℕ) (ns : List ℤ) (rest : List ℕ) (final : List ℤ) : Type 0 where
+record DigitsLeft (c : Word) (n : Bool) (v : ℕ) (ns : List ℤ) (rest : List ℕ) (final : List ℤ) : Type 0 where
   ds : List ℕ
   behind : List ℕ
   split : ds ++ behind ≡ rest
@@ -219,7 +221,7 @@ record DigitsLeft (c : ℕ) (n : Bool) (v : ℕ) (ns : List ℤ) (rest : List �
   goes : Goes a_number (after c) (ns ++ (signed_value n (value_from v ds) ∷ [])) behind final
 
 -- one digit at least
-record NumberLeft (c : ℕ) (n : Bool) (v : ℕ) (ns : List ℤ) (rest : List ℕ) (final : List ℤ) : Type 0 where
+record NumberLeft (c : Word) (n : Bool) (v : ℕ) (ns : List ℤ) (rest : List ℕ) (final : List ℤ) : Type 0 where
   ds : List ℕ
   behind : List ℕ
   split : ds ++ behind ≡ rest
@@ -277,24 +279,24 @@ module _ (b : ℕ) (rest : List ℕ) (final : List ℤ) where
   digits_of_is d e All.none = one d e
   digits_of_is d e (All.also {x = x} h k) = more d e (digits_of_is x h k)
 
-  first_digit : (c : ℕ) (n : Bool) (v : ℕ) (ns : List ℤ) → is_digit b ≡ true → DigitsLeft c n (10 * v + (b - digit0)) ns rest final → NumberLeft c n v ns (b ∷ rest) final
+  first_digit : (c : Word) (n : Bool) (v : ℕ) (ns : List ℤ) → is_digit b ≡ true → DigitsLeft c n (10 * v + (b - digit0)) ns rest final → NumberLeft c n v ns (b ∷ rest) final
   unfolding value_from
   first_digit c n v ns e g = record { ds = b ∷ g.ds; behind = g.behind; split = ap (λ l. b ∷ l) g.split; digits = digits_of_is b e g.digits; goes = g.goes }
 
-  more_digit : (c : ℕ) (n : Bool) (v : ℕ) (ns : List ℤ) → is_digit b ≡ true → DigitsLeft c n (10 * v + (b - digit0)) ns rest final → DigitsLeft c n v ns (b ∷ rest) final
+  more_digit : (c : Word) (n : Bool) (v : ℕ) (ns : List ℤ) → is_digit b ≡ true → DigitsLeft c n (10 * v + (b - digit0)) ns rest final → DigitsLeft c n v ns (b ∷ rest) final
   unfolding value_from
   more_digit c n v ns e g = record { ds = b ∷ g.ds; behind = g.behind; split = ap (λ l. b ∷ l) g.split; digits = All.also {x = b} e g.digits; goes = g.goes }
 
-  no_digit : (c : ℕ) (n : Bool) (v : ℕ) (ns : List ℤ) → Goes a_number (after c) (ns ++ (signed_value n v ∷ [])) (b ∷ rest) final → DigitsLeft c n v ns (b ∷ rest) final
+  no_digit : (c : Word) (n : Bool) (v : ℕ) (ns : List ℤ) → Goes a_number (after c) (ns ++ (signed_value n v ∷ [])) (b ∷ rest) final → DigitsLeft c n v ns (b ∷ rest) final
   unfolding value_from
   no_digit c n v ns g = record { ds = []; behind = b ∷ rest; split = refl; digits = All.none; goes = g }
 
   -- an unsigned number
-  whole_number : (c : ℕ) (ns : List ℤ) → NumberLeft c false 0 ns (b ∷ rest) final → Goes aMark (coordinate c) ns (b ∷ rest) final
+  whole_number : (c : Word) (ns : List ℤ) → NumberLeft c false 0 ns (b ∷ rest) final → Goes aMark (coordinate c) ns (b ∷ rest) final
   whole_number c ns g = subst (λ l. Goes aMark (coordinate c) ns l final) g.split (add_number c (pos (value_from 0 g.ds)) (unsigned g.ds g.digits) g.goes)
 
   -- a signed one
-  signed_number : (c : ℕ) (ns : List ℤ) → is_sign b ≡ true → NumberLeft c (eqb b minus) 0 ns rest final → Goes aMark (coordinate c) ns (b ∷ rest) final
+  signed_number : (c : Word) (ns : List ℤ) → is_sign b ≡ true → NumberLeft c (eqb b minus) 0 ns rest final → Goes aMark (coordinate c) ns (b ∷ rest) final
   signed_number c ns e g = by_test (eqb b minus) below above
     where
       below : eqb b minus ≡ true → Goes aMark (coordinate c) ns (b ∷ rest) final
@@ -320,24 +322,23 @@ module _ (b : ℕ) (rest : List ℕ) (final : List ℤ) where
   never r q = q
 
   -- past what follows coordinate c
-  past_after : (c : ℕ) → c ≤ 3 → {k : Kind} (r : Reading) → To r (onward b (mark_after c) (past_mark c) (After c)) → Goes k (after c) (finished r) (b ∷ rest) final
-  past_after zero h r q = choose_onward (To r) b space (Due 1) (After 0) (never r) q (λ e p. add_space b e p) (λ e p. add_space b e p)
-  past_after (suc zero) h r q = choose_onward (To r) b comma (Due 2) (After 1) (never r) q (λ e p. add_mark b comma e (λ ts zs t. between t) p) (λ e p. add_space b e p)
-  past_after (suc (suc zero)) h r q = choose_onward (To r) b space (Due 3) (After 2) (never r) q (λ e p. add_space b e p) (λ e p. add_space b e p)
-  past_after (suc (suc (suc zero))) h r q = choose_onward (To r) b closing More (After 3) (never r) q (λ e p. add_mark b closing e (λ ts zs t. shut t) p) (λ e p. add_space b e p)
-  past_after (suc (suc (suc (suc c)))) h r q = absurd (omega arith)
+  past_after : (c : Word) → {k : Kind} (r : Reading) → To r (onward b (mark_after c) (past_mark c) (After c)) → Goes k (after c) (finished r) (b ∷ rest) final
+  past_after X1 r q = choose_onward (To r) b space (Due Y1) (After X1) (never r) q (λ e p. add_space b e p) (λ e p. add_space b e p)
+  past_after Y1 r q = choose_onward (To r) b comma (Due X2) (After Y1) (never r) q (λ e p. add_mark b comma e (λ ts zs t. between t) p) (λ e p. add_space b e p)
+  past_after X2 r q = choose_onward (To r) b space (Due Y2) (After X2) (never r) q (λ e p. add_space b e p) (λ e p. add_space b e p)
+  past_after Y2 r q = choose_onward (To r) b closing More (After Y2) (never r) q (λ e p. add_mark b closing e (λ ts zs t. shut t) p) (λ e p. add_space b e p)
 
-  back_signed : (c : ℕ) (n : Bool) (ns : List ℤ) → To (record { state = Signed c; negative = n; value = 0; numbers = ns }) (step_state (Signed c) b) → NumberLeft c n 0 ns (b ∷ rest) final
+  back_signed : (c : Word) (n : Bool) (ns : List ℤ) → To (record { state = Signed c; negative = n; value = 0; numbers = ns }) (step_state (Signed c) b) → NumberLeft c n 0 ns (b ∷ rest) final
   back_signed c n ns q =
       choose (To (record { state = Signed c; negative = n; value = 0; numbers = ns })) (is_digit b) (Number c) Failed q
       (λ e p. first_digit c n 0 ns e p)
       (λ e p. absurd p)
 
-  back_number : (c : ℕ) (n : Bool) (v : ℕ) (ns : List ℤ) → c ≤ 3 → To (record { state = Number c; negative = n; value = v; numbers = ns }) (step_state (Number c) b) → DigitsLeft c n v ns (b ∷ rest) final
-  back_number c n v ns h q =
+  back_number : (c : Word) (n : Bool) (v : ℕ) (ns : List ℤ) → To (record { state = Number c; negative = n; value = v; numbers = ns }) (step_state (Number c) b) → DigitsLeft c n v ns (b ∷ rest) final
+  back_number c n v ns q =
       choose (To (record { state = Number c; negative = n; value = v; numbers = ns })) (is_digit b) (Number c) (onward b (mark_after c) (past_mark c) (After c)) q
       (λ e p. more_digit c n v ns e p)
-      (λ e p. no_digit c n v ns (past_after c h (record { state = Number c; negative = n; value = v; numbers = ns }) p))
+      (λ e p. no_digit c n v ns (past_after c (record { state = Number c; negative = n; value = v; numbers = ns }) p))
 
   the_name : {ts : List Token} {zs : List ℤ} → Tail atBody ts zs → Tail at_start (word name ∷ ts) zs
   the_name {ts} {zs} t = subst (λ w. Tail at_start (word w ∷ ts) zs) name_bytes (named t)
@@ -367,7 +368,7 @@ module _ (b : ℕ) (rest : List ℕ) (final : List ℤ) where
       (λ f g. last_letter empty k (omega (arith, eqb-true k 4 f)) e (at_end aWord g))
       (λ f g. one_letter empty k (omega arith) e (subst (λ j. WordLeft (drop j empty) atEnd ns rest final) (add-one k) g)))
       (λ e p. absurd p)
-  back_at Line ns h q = choose_onward (To (at Line ns)) b opening (Due 0) Line (never (at Line ns)) q (λ e p. add_mark b opening e (λ ts zs t. line t) p) (λ e p. add_space b e p)
+  back_at Line ns h q = choose_onward (To (at Line ns)) b opening (Due X1) Line (never (at Line ns)) q (λ e p. add_mark b opening e (λ ts zs t. line t) p) (λ e p. add_space b e p)
   back_at (Due c) ns h q =
       choose (To (at (Due c) ns)) (is_digit b) (Number c) (cond (is_sign b) (Signed c) (cond (eqb b space) (Due c) Failed)) q
       (λ e p. whole_number c ns (first_digit c false 0 ns e p))
@@ -375,8 +376,8 @@ module _ (b : ℕ) (rest : List ℕ) (final : List ℤ) where
       (λ f g. signed_number c ns f g)
       (λ f g. choose (To (at (Due c) ns)) (eqb b space) (Due c) Failed g (λ d l. add_space b d l) (λ d l. absurd l)))
   back_at (Signed c) ns h q = back_signed c false ns q
-  back_at (Number c) ns h q = back_number c false 0 ns h q
-  back_at (After c) ns h q = past_after c h (at (After c) ns) q
+  back_at (Number c) ns h q = back_number c false 0 ns q
+  back_at (After c) ns h q = past_after c (at (After c) ns) q
   back_at More ns h q =
       choose (To (at More ns)) (eqb b comma) Line (onward b closing End More) q
       (λ e p. add_mark b comma e (λ ts zs t. further t) p)
@@ -386,8 +387,8 @@ module _ (b : ℕ) (rest : List ℕ) (final : List ℤ) where
 
   back : {r : Reading} → Shape r → Left (step r b) rest final → Left r (b ∷ rest) final
   back (loose s ns h) q = back_at s ns h q
-  back (signed c n ns h) q = back_signed c n ns q
-  back (counted c n v ns h) q = back_number c n v ns h q
+  back (signed c n ns) q = back_signed c n ns q
+  back (counted c n v ns) q = back_number c n v ns q
 
 -- ---- all bytes
 at_once : (s : State) (ns : List ℤ) → T (ended s) → Remains s false 0 ns [] ns
@@ -408,8 +409,8 @@ at_once Failed ns e = absurd e
 sound : (rest : List ℕ) {r : Reading} → Shape r → T (ended (run r rest).state) → Left r rest (run r rest).numbers
 unfolding run
 sound [] (loose s ns h) e = at_once s ns e
-sound [] (signed c n ns h) e = absurd e
-sound [] (counted c n v ns h) e = absurd e
+sound [] (signed c n ns) e = absurd e
+sound [] (counted c n v ns) e = absurd e
 sound (b ∷ rest) {r} h e = back b rest (run (step r b) rest).numbers h (sound rest (shape_step h b) e)
 
 -- ---- the tokens are those of segments

@@ -1,21 +1,16 @@
 -- What the code keeps of a reading: values clipped one above the limits, the count of numbers, and of those before the first beyond the limits.
 -- Use: `shown_step` and `tally_step` for a loop over the bytes; `clipped_all` says that clipping changes no answer. Assumes nothing.
-use Rattle.std.specs.Prelude.{◌≡◌, refl, Bool, true, false, not, cond, ◌&&◌, List, [], ◌∷◌, ◌++◌, map, ℕ, zero, suc, ◌+◌, ◌-◌, ◌*◌, ◌≤◌, ◌<◌, min, ◌^◌, eqb, leb, ℤ, pos, negsuc, neg_ℤ, ◌-ℤ◌, length}
+use Rattle.std.specs.Prelude.{◌≡◌, refl, Bool, true, false, not, cond, ◌&&◌, List, [], ◌∷◌, ◌++◌, map, ℕ, zero, suc, ◌+◌, ◌-◌, ◌*◌, ◌≤◌, min, eqb, leb, ℤ, pos, negsuc, neg_ℤ, length}
 use Rattle.std.proofs.Common.{sym, ap, ap₂, ◌∙◌, arith, length-append, ne_eqb, leb-true, leb-false, le-leb}
 use Rattle.std.proofs.Math.Dec.{eqb-suc-suc}
-use Rattle.std.specs.Int.{Width}
-use mir.Val.{SFits, hbits}
-use Rattle.whole.specs.Whole.{whole, #, ◌⊖◌, ⊝, of}
 use Rattle.std.proofs.lemmas.Bool.{lt-leb}
 use Rattle.lists.specs.Tests.{by_test, clash}
 use Rattle.paper.specs.Limits.{coordinate_fits}
-use Rattle.paper.specs.Lines.{is_digit, digit0, minus}
-use Rattle.paper.specs.Wkt.{space}
+use Rattle.paper.specs.Lines.{digit0, minus}
 use Rattle.wkt_read.specs.declared.automaton.State.{State}
-use Rattle.wkt_read.specs.declared.automaton.State.TheVariants.{Start, Name, Named, Body, Empty, Line, Due, Signed, Number, After, More, End, Failed}
 use Rattle.wkt_read.specs.declared.Reader.{Reader}
 use Rattle.wkt_read.specs.declared.Tally.{Tally}
-use Rattle.wkt_read.specs.Machine.{is_sign, onward, mark_after, past_mark, step_state, digit_place, is_signed, in_number, Reading, signed_value, finished, step, run}
+use Rattle.wkt_read.specs.Machine.{step_state, is_signed, in_number, Reading, signed_value, finished, step, run}
 
 -- ---- values
 abbrev pub clip : ℕ → ℕ
@@ -37,42 +32,6 @@ read_on h b =
     cond (in_number s)
     (record { state = s; negative = h.negative; value = grown h.value b })
     (record { state = s; negative = is_signed s && eqb b minus; value = 0 })
-
--- as the code makes it
-pub reads_digit : (h : Reader) (b : ℕ) {v : ℕ} {s : State} → s ≡ step_state h.state b → in_number s ≡ true → v ≡ grown h.value b → record { state = s; negative = h.negative; value = v } ≡ read_on h b
-reads_digit h b e f g =
-    (λ k. record { state = e k; negative = h.negative; value = g k })
-    ∙ sym
-    (ap
-    (λ t. cond t (record { state = step_state h.state b; negative = h.negative; value = grown h.value b }) (record { state = step_state h.state b; negative = is_signed (step_state h.state b) && eqb b minus; value = 0 }))
-    (ap in_number (sym e) ∙ f))
-
-pub reads_other : (h : Reader) (b : ℕ) {n : Bool} {s : State} → s ≡ step_state h.state b → in_number s ≡ false → n ≡ (is_signed s && eqb b minus) → record { state = s; negative = n; value = 0 } ≡ read_on h b
-reads_other h b e f g =
-    (λ k. record { state = e k; negative = (g ∙ ap (λ x. is_signed x && eqb b minus) e) k; value = 0 })
-    ∙ sym
-    (ap
-    (λ t. cond t (record { state = step_state h.state b; negative = h.negative; value = grown h.value b }) (record { state = step_state h.state b; negative = is_signed (step_state h.state b) && eqb b minus; value = 0 }))
-    (ap in_number (sym e) ∙ f))
-
--- a digit where one may stand belongs to the coordinate that is due
-digit_goes : (s : State) (b : ℕ) → is_digit b ≡ true → digit_place s < 4 → step_state s b ≡ Number (digit_place s)
-digit_goes Start b e h = absurd (omega arith)
-digit_goes (Name k) b e h = absurd (omega arith)
-digit_goes Named b e h = absurd (omega arith)
-digit_goes Body b e h = absurd (omega arith)
-digit_goes (Empty k) b e h = absurd (omega arith)
-digit_goes Line b e h = absurd (omega arith)
-digit_goes (Due c) b e h = ap (λ t. cond t (Number c) (cond (is_sign b) (Signed c) (cond (eqb b space) (Due c) Failed))) e
-digit_goes (Signed c) b e h = ap (λ t. cond t (Number c) Failed) e
-digit_goes (Number c) b e h = ap (λ t. cond t (Number c) (onward b (mark_after c) (past_mark c) (After c))) e
-digit_goes (After c) b e h = absurd (omega arith)
-digit_goes More b e h = absurd (omega arith)
-digit_goes End b e h = absurd (omega arith)
-digit_goes Failed b e h = absurd (omega arith)
-
-pub reads_more : (h : Reader) (b : ℕ) {c v : ℕ} → is_digit b ≡ true → c ≡ digit_place h.state → c < 4 → v ≡ grown h.value b → record { state = Number c; negative = h.negative; value = v } ≡ read_on h b
-reads_more h b e p l g = reads_digit h b (ap Number p ∙ sym (digit_goes h.state b e (omega (arith, p, l)))) refl g
 
 pub shown_step : (r : Reading) (b : ℕ) → shown (step r b) ≡ read_on (shown r) b
 shown_step r b = go (step_state r.state b) (in_number (step_state r.state b))
@@ -234,11 +193,3 @@ clipped_all (z ∷ ns) e = go (coordinate_fits z) refl (λ q. clipped_all ns q) 
     go : (t : Bool) → coordinate_fits z ≡ t → (fitting_of ns ≡ length ns → map clipped ns ≡ ns) → cond t (suc (fitting_of ns)) 0 ≡ suc (length ns) → map clipped (z ∷ ns) ≡ z ∷ ns
     go true f h q = ap₂ (λ x l. x ∷ l) (clipped_fits z f) (h (rest q))
     go false f h q = absurd (omega arith)
-
--- ---- a negative value as the machine makes it
-pub negative_is : (v : ℕ) → (pos 0 -ℤ pos v) ≡ neg_ℤ (pos v)
-negative_is v = omega (whole, of (# (pos 0) ⊖ # (pos v)), of (⊝ (# (pos v))))
-
-pub negative_fits : (w : Width) (v : ℕ) → v ≤ 536870913 → 536870913 ≤ 2 ^ hbits w → SFits w (neg_ℤ (pos v))
-negative_fits w zero h k = record { sfits = omega arith }
-negative_fits w (suc v) h k = record { sfits = omega arith }

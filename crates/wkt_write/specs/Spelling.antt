@@ -1,24 +1,16 @@
 -- The one spelling, line by line: its length, and what is still due from the i-th line on.
-use Rattle.std.specs.Prelude.{◌≡◌, refl, List, [], ◌∷◌, ◌++◌, map, ℕ, suc, ◌+◌, ◌≤◌, ◌<◌, ℤ, pos, length, drop, get_or}
+use Rattle.std.specs.Prelude.{◌≡◌, refl, List, [], ◌∷◌, ◌++◌, map, ℕ, suc, ◌+◌, ◌≤◌, ◌<◌, ℤ, pos, length, drop}
 use Rattle.std.proofs.Common.{sym, ap, ◌∙◌, arith, add-one, length-append, drop_of_length-le, drop-cons}
 use Rattle.std.proofs.lemmas.List.{map-append}
-use Rattle.lists.specs.Plain.{to_nat, positions}
-use Rattle.paper.specs.Descriptor.{cell_of, size_of, segment_of, segments_of}
+use Rattle.std.proofs.Common.{w64, SFits, to_z, of_z}
+use Rattle.std.proofs.lemmas.Int.{to_z-of_z}
+use Rattle.lists.specs.Plain.{positions}
+use Rattle.paper.specs.Descriptor.{size_of, segment_of, segments_of}
 use Rattle.paper.specs.Lines.{decimal, bytes}
-use Rattle.paper.specs.Wkt.{space, opening, closing, comma, point_text, line_text, further_text, body_text, text_of}
+use Rattle.paper.specs.Wkt.{space, opening, closing, comma, line_text, further_text, body_text, text_of}
 use Rattle.paper.specs.declared.Descriptor.{Descriptor}
 use Rattle.paper.specs.declared.Segment.{Segment}
 use Rattle.table.specs.Segments.{length_segments, at_segment}
-
--- coordinate j of position i
-abbrev pub coordinate_of : Descriptor → List ℤ → ℕ → ℕ → ℤ
-coordinate_of d table i j = get_or table (to_nat (cell_of d i j)) (pos 0)
-
-abbrev pub point_of : Descriptor → List ℤ → ℕ → ℕ → List ℕ
-point_of d table i j = point_text (coordinate_of d table i j) (coordinate_of d table i (j + 1))
-
-abbrev pub line_of : Descriptor → List ℤ → ℕ → List ℕ
-line_of d table i = line_text (segment_of d table i)
 
 -- ---- the words
 abbrev pub name : List ℕ
@@ -36,9 +28,13 @@ unfolding bytes
 empty_bytes = refl
 
 -- ---- lengths
-pub line_length : (d : Descriptor) (table : List ℤ) (i : ℕ)
-    → length (line_of d table i) ≡ 6 + (length (decimal (coordinate_of d table i 0)) + (length (decimal (coordinate_of d table i 1)) + (length (decimal (coordinate_of d table i 2)) + length (decimal (coordinate_of d table i 3)))))
-line_length d table i = go (decimal (coordinate_of d table i 0)) (decimal (coordinate_of d table i 1)) (decimal (coordinate_of d table i 2)) (decimal (coordinate_of d table i 3))
+
+-- a coordinate as the code passes it
+pub passed_length : (z : ℤ) → SFits w64 z → length (decimal (to_z w64 (of_z w64 z))) ≡ length (decimal z)
+passed_length z f = ap (λ x. length (decimal x)) (to_z-of_z w64 z f)
+
+pub line_length : (s : Segment) → length (line_text s) ≡ 6 + (length (decimal s.x1) + (length (decimal s.y1) + (length (decimal s.x2) + length (decimal s.y2))))
+line_length s = go (decimal s.x1) (decimal s.y1) (decimal s.x2) (decimal s.y2)
   where
     go : (a b c e : List ℕ) → length (opening ∷ ((a ++ (space ∷ b)) ++ (comma ∷ space ∷ ((c ++ (space ∷ e)) ++ (closing ∷ []))))) ≡ 6 + (length a + (length b + (length c + length e)))
     go a b c e =
@@ -78,7 +74,7 @@ empty_length = refl
 abbrev pub firsts : Descriptor → List ℤ → ℕ → List Segment
 firsts d table i = map (segment_of d table) (positions i)
 
-pub firsts_next : (d : Descriptor) (table : List ℤ) (i : ℕ) → lines_length (firsts d table (i + 1)) ≡ lines_length (firsts d table i) + (length (line_of d table i) + 2)
+pub firsts_next : (d : Descriptor) (table : List ℤ) (i : ℕ) → lines_length (firsts d table (i + 1)) ≡ lines_length (firsts d table i) + (length (line_text (segment_of d table i)) + 2)
 unfolding positions
 firsts_next d table i =
     ap (λ k. lines_length (firsts d table k)) (add-one i)
@@ -108,7 +104,7 @@ rest_at d table i e h =
     ∙ ap (λ k. segment_of d table i ∷ drop k (segments_of d table)) (sym (add-one i))
 
 pub further_next : (d : Descriptor) (table : List ℤ) {n : ℕ} (i : ℕ) → n ≡ size_of d → i < n
-    → further_text (drop i (segments_of d table)) ≡ (comma ∷ space ∷ line_of d table i) ++ further_text (drop (i + 1) (segments_of d table))
+    → further_text (drop i (segments_of d table)) ≡ (comma ∷ space ∷ line_text (segment_of d table i)) ++ further_text (drop (i + 1) (segments_of d table))
 unfolding further_text
 further_next d table i e h = ap further_text (rest_at d table i e h)
 
@@ -116,5 +112,5 @@ pub further_end : (d : Descriptor) (table : List ℤ) {n : ℕ} (i : ℕ) → n 
 unfolding further_text
 further_end d table i e h = ap further_text (drop_of_length-le (segments_of d table) {i = i} (omega (arith, segments_length d table e)))
 
-pub body_some : (d : Descriptor) (table : List ℤ) {n : ℕ} → n ≡ size_of d → 0 < n → body_text (segments_of d table) ≡ opening ∷ (line_of d table 0 ++ further_text (drop 1 (segments_of d table)))
+pub body_some : (d : Descriptor) (table : List ℤ) {n : ℕ} → n ≡ size_of d → 0 < n → body_text (segments_of d table) ≡ opening ∷ (line_text (segment_of d table 0) ++ further_text (drop 1 (segments_of d table)))
 body_some d table e h = ap body_text (rest_at d table 0 e h)

@@ -1,35 +1,30 @@
--- A text that is written part by part: what is still due at place k of the buffer, the place where it ends, and the buffer once it is written.
--- Use: `todo_start`, then for each part `todo_room` before it is written and `todo_step` after, and `todo_written` at the end. Assumes nothing.
-use Rattle.std.specs.Prelude.{◌≡◌, refl, List, [], ◌++◌, ℕ, ◌+◌, ◌≤◌, length}
-use Rattle.std.proofs.Common.{sym, ap₂, ◌∙◌, subst, append-nil, arith, length-append}
-use Rattle.lists.specs.Parts.{put, put_nil, put_join}
-use Rattle.texts.specs.Written.{Written, written_length}
+-- A text that is written part by part: what an output has of it, and what is still due.
+-- Use: `due_start`, then for each part `due_room` before it is written and `due_step` after, and `due_end` once nothing is due. Assumes nothing.
+use Rattle.std.specs.Prelude.{◌≡◌, refl, List, [], ◌++◌, ℕ, length}
+use Rattle.std.proofs.Common.{ap, ◌∙◌, subst, append_assoc, arith, length-append}
+use Rattle.texts.specs.declared.Output.{Output}
+use Rattle.texts.specs.Written.{Room, Wrote, wrote_none, wrote_join, wrote_length}
 
-pub record Todo (left : List ℕ) (k : ℕ) (out : List ℕ) (end : ℕ) (after : List ℕ) : Type 0 where
-  pub ends : k + length left ≡ end
-  pub wrote : put k left out ≡ after
-  pub room : end ≤ length out
+pub record Due (whole left : List ℕ) (before now : Output) : Type 0 where
+  pub written : List ℕ
+  pub wrote : Wrote written before now
+  pub rest : written ++ left ≡ whole
+  pub room : Room (length whole) before
 
-pub todo_start : (text : List ℕ) (at : ℕ) (out : List ℕ) → at + length text ≤ length out → Todo text at out (at + length text) (put at text out)
-todo_start text at out h = record { ends = refl; wrote = refl; room = h }
+pub due_start : (whole : List ℕ) {o : Output} → Room (length whole) o → Due whole whole o o
+due_start whole {o} h = record { written = []; wrote = wrote_none (omega (arith, h)); rest = refl; room = h }
 
-module _ (a b : List ℕ) {k : ℕ} {out : List ℕ} {end : ℕ} {after : List ℕ} (t : Todo (a ++ b) k out end after) where
-  pub todo_room : k + length a ≤ length out
-  todo_room = omega (arith, t.ends, t.room, length-append a b)
+module _ {whole : List ℕ} (a b : List ℕ) {before now : Output} (d : Due whole (a ++ b) before now) where
+  pub due_room : Room (length a) now
+  due_room = omega (arith, d.wrote.ends, wrote_length d.wrote, d.room, ap length d.rest, length-append d.written (a ++ b), length-append a b)
 
-  pub todo_step : {k' : ℕ} {out' : List ℕ} → Written a k out k' out' → Todo b k' out' end after
-  todo_step w = record {
-    ends = omega (arith, t.ends, w.ends, length-append a b);
-    wrote = ap₂ (λ j o. put j b o) w.ends w.wrote ∙ put_join k a b out (omega (arith, t.ends, t.room, length-append a b)) ∙ t.wrote;
-    room = omega (arith, t.room, written_length todo_room w);
-  }
+  pub due_step : {next : Output} → Wrote a now next → Due whole b before next
+  due_step w = record { written = d.written ++ a; wrote = wrote_join d.wrote w; rest = append_assoc d.written a b ∙ d.rest; room = d.room }
 
 -- the last part
-pub todo_last : (a : List ℕ) {k : ℕ} {out : List ℕ} {end : ℕ} {after : List ℕ} → Todo a k out end after → {k' : ℕ} {out' : List ℕ} → Written a k out k' out' → Todo [] k' out' end after
-todo_last a {k} {out} {end} {after} t w = todo_step a [] (subst (λ l. Todo l k out end after) (sym (append-nil a)) t) w
+module _ {whole a : List ℕ} {before now : Output} (d : Due whole a before now) where
+  pub due_all : Room (length a) now
+  due_all = omega (arith, d.wrote.ends, wrote_length d.wrote, d.room, ap length d.rest, length-append d.written a)
 
-pub todo_all : {a : List ℕ} {k : ℕ} {out : List ℕ} {end : ℕ} {after : List ℕ} → Todo a k out end after → k + length a ≤ length out
-todo_all t = omega (arith, t.ends, t.room)
-
-pub todo_written : {text : List ℕ} {at : ℕ} {out : List ℕ} {k : ℕ} {out' : List ℕ} → Todo [] k out' (at + length text) (put at text out) → Written text at out k out'
-todo_written {k = k} {out' = out'} t = record { ends = omega (arith, t.ends); wrote = sym (put_nil k out') ∙ t.wrote }
+  pub due_last : {next : Output} → Wrote a now next → Wrote whole before next
+  due_last {next} w = subst (λ t. Wrote t before next) d.rest (wrote_join d.wrote w)

@@ -1,180 +1,126 @@
 // The one spelling of a table as text (request E3), through its descriptor: how many bytes it takes, and the bytes, written into a lent buffer.
-// A caller has shown that the table's cells are there (`Held`) and that the buffer is long enough.
+// A caller has shown that the buffer is long enough.
 #![tactic(auto)]
 
-ghost use Rattle.std.specs.Prelude.{◌≡◌, [], ◌∷◌, ◌++◌, ◌+◌, ◌*◌, ◌≤◌, ◌<◌, pos, length, drop};
+ghost use Rattle.std.specs.Prelude.{◌≡◌, [], ◌∷◌, ◌+◌, ◌*◌, ◌≤◌, ◌<◌, length, drop};
 ghost use Rattle.lists.specs.Parts.{put};
 ghost use Rattle.paper.specs.Descriptor.{size_of, segments_of};
 ghost use Rattle.paper.specs.Lines.{decimal};
-ghost use Rattle.paper.specs.Wkt.{space, comma, further_text, body_text, text_of};
-ghost use Rattle.table.specs.Cells.{Held};
-ghost use Rattle.texts.specs.Written.{Written};
-ghost use Rattle.wkt_write.specs.Spelling.{coordinate_of, point_of, line_of, lines_length, firsts};
+ghost use Rattle.paper.specs.Wkt.{point_text, line_text, further_text, body_text, text_of};
+ghost use Rattle.texts.specs.Written.{Room, Wrote};
+ghost use Rattle.wkt_write.specs.Spelling.{lines_length};
 
-use paper::Descriptor;
+use paper::Segment;
+use table::Table;
+use texts::Output;
 
 // ---- how many bytes
 
 fn number_width(z: i64) -> usize
     ensures { (result ≡ length (decimal z)) × (result ≤ 21) }
 {
-    if whole::less(z, 0) {
-        let n = texts::below(z) + 1;
-        return texts::width(n) + 1;
-    }
-    let n = whole::index(z);
-    texts::width(n)
+    let digits = texts::width(z.unsigned_abs() as usize);
+    if z < 0 { digits + 1 } else { digits }
 }
 
-fn coordinate_width(table: &[i32], descriptor: Descriptor, i: usize, j: usize) -> usize
-    requires { (i < size_of descriptor) × (j < 4) × Held (pos (length table.now)) descriptor }
-    ensures { (result ≡ length (decimal (coordinate_of descriptor table.now i j))) × (result ≤ 21) }
+fn line_width(segment: Segment) -> usize
+    ensures { (result ≡ length (line_text segment)) × (result ≤ 90) }
 {
-    let z = table::coordinate(table, descriptor, i, j);
-    number_width(z)
-}
-
-fn line_width(table: &[i32], descriptor: Descriptor, i: usize) -> usize
-    requires { (i < size_of descriptor) × Held (pos (length table.now)) descriptor }
-    ensures { (result ≡ length (line_of descriptor table.now i)) × (result ≤ 90) }
-{
-    let x1 = coordinate_width(table, descriptor, i, 0);
-    let y1 = coordinate_width(table, descriptor, i, 1);
-    let x2 = coordinate_width(table, descriptor, i, 2);
-    let y2 = coordinate_width(table, descriptor, i, 3);
+    let x1 = number_width(segment.x1);
+    let y1 = number_width(segment.y1);
+    let x2 = number_width(segment.x2);
+    let y2 = number_width(segment.y2);
     6 + x1 + y1 + x2 + y2
 }
 
 // The first line stands between two marks, each other one after two and the last before one: so two bytes more for each line.
-fn lines_width(table: &[i32], descriptor: Descriptor, n: usize) -> usize
-    requires { (n ≡ size_of descriptor) × (n ≤ 4096) × Held (pos (length table.now)) descriptor }
-    ensures { (result ≡ lines_length (firsts descriptor table.now n)) × (result ≤ 376832) }
+fn lines_width(table: Table) -> usize
+    ensures { (result ≡ lines_length (segments_of table.entry.descriptor table.entry.cells.now)) × (result ≤ 376832) }
 {
     let mut sum = 0;
-    let mut i = 0;
-    while i < n {
-        sum += line_width(table, descriptor, i) + 2;
-        i += 1;
+    for i in 0..table.count() {
+        sum += line_width(table.segment(i)) + 2;
     }
     sum
 }
 
-pub fn text_width(table: &[i32], descriptor: Descriptor, n: usize) -> usize
-    requires { (n ≡ size_of descriptor) × (n ≤ 4096) × Held (pos (length table.now)) descriptor }
-    ensures { (result ≡ length (text_of (segments_of descriptor table.now))) × (result ≤ 376848) }
+pub fn text_width(table: Table) -> usize
+    ensures { (result ≡ length (text_of (segments_of table.entry.descriptor table.entry.cells.now))) × (result ≤ 376848) }
 {
-    if n == 0 {
+    if table.count() == 0 {
         return 21;
     }
-    16 + lines_width(table, descriptor, n)
+    16 + lines_width(table)
 }
 
-// ---- the bytes: each function writes from a place on and returns the place after
+// ---- the bytes
 
-fn put_byte(out: &mut [u8], at: usize, b: u8) -> usize
-    requires { at + 1 ≤ length out.old }
-    ensures { Written (b ∷ []) at out.old result out.new }
+fn push_point(output: &mut Output, x: i64, y: i64)
+    requires { Room (length (point_text x y)) output.old }
+    ensures { Wrote (point_text x y) output.old output.new }
 {
-    out[at] = b;
-    at + 1
+    output.push_number(x);
+    output.push(b' ');
+    output.push_number(y);
 }
 
-fn put_word(out: &mut [u8], at: usize, word: &[u8]) -> usize
-    requires { at + length word.now ≤ length out.old }
-    ensures { Written word.now at out.old result out.new }
+// Within both its callers: a call for each line takes a tenth more.
+#[inline(always)]
+fn push_line(output: &mut Output, segment: Segment)
+    requires { Room (length (line_text segment)) output.old }
+    ensures { Wrote (line_text segment) output.old output.new }
 {
-    let mut i = 0;
-    while i < word.len() {
-        out[at + i] = word[i];
-        i += 1;
-    }
-    at + word.len()
-}
-
-fn put_coordinate(
-    out: &mut [u8],
-    at: usize,
-    table: &[i32],
-    descriptor: Descriptor,
-    i: usize,
-    j: usize,
-) -> usize
-    requires { (i < size_of descriptor) × (j < 4) × Held (pos (length table.now)) descriptor × (at + length (decimal (coordinate_of descriptor table.now i j)) ≤ length out.old) }
-    ensures { Written (decimal (coordinate_of descriptor table.now i j)) at out.old result out.new }
-{
-    let z = table::coordinate(table, descriptor, i, j);
-    texts::put_number(out, at, z)
-}
-
-// Coordinates j and j + 1.
-fn put_point(
-    out: &mut [u8],
-    at: usize,
-    table: &[i32],
-    descriptor: Descriptor,
-    i: usize,
-    j: usize,
-) -> usize
-    requires { (i < size_of descriptor) × (j < 3) × Held (pos (length table.now)) descriptor × (at + length (point_of descriptor table.now i j) ≤ length out.old) }
-    ensures { Written (point_of descriptor table.now i j) at out.old result out.new }
-{
-    let x = put_coordinate(out, at, table, descriptor, i, j);
-    let k = put_byte(out, x, b' ');
-    put_coordinate(out, k, table, descriptor, i, j + 1)
-}
-
-fn put_line(out: &mut [u8], at: usize, table: &[i32], descriptor: Descriptor, i: usize) -> usize
-    requires { (i < size_of descriptor) × Held (pos (length table.now)) descriptor × (at + length (line_of descriptor table.now i) ≤ length out.old) }
-    ensures { Written (line_of descriptor table.now i) at out.old result out.new }
-{
-    let open = put_byte(out, at, b'(');
-    let first = put_point(out, open, table, descriptor, i, 0);
-    let comma = put_byte(out, first, b',');
-    let space = put_byte(out, comma, b' ');
-    let second = put_point(out, space, table, descriptor, i, 2);
-    put_byte(out, second, b')')
-}
-
-// A line after another.
-fn put_next(out: &mut [u8], at: usize, table: &[i32], descriptor: Descriptor, i: usize) -> usize
-    requires { (i < size_of descriptor) × Held (pos (length table.now)) descriptor × (at + length (comma ∷ space ∷ line_of descriptor table.now i) ≤ length out.old) }
-    ensures { Written (comma ∷ space ∷ line_of descriptor table.now i) at out.old result out.new }
-{
-    let comma = put_byte(out, at, b',');
-    let space = put_byte(out, comma, b' ');
-    put_line(out, space, table, descriptor, i)
+    output.push(b'(');
+    push_point(output, segment.x1, segment.y1);
+    output.push_all(b", ");
+    push_point(output, segment.x2, segment.y2);
+    output.push(b')'); // closes the line
 }
 
 // The lines after the first, and the last mark.
-fn put_further(out: &mut [u8], at: usize, table: &[i32], descriptor: Descriptor, n: usize) -> usize
-    requires { (n ≡ size_of descriptor) × (1 ≤ n) × Held (pos (length table.now)) descriptor × (at + length (further_text (drop 1 (segments_of descriptor table.now))) ≤ length out.old) }
-    ensures { Written (further_text (drop 1 (segments_of descriptor table.now))) at out.old result out.new }
+fn push_further(output: &mut Output, table: Table)
+    requires { (1 ≤ size_of table.descriptor) × Room (length (further_text (drop 1 (segments_of table.descriptor table.cells.now)))) output.old }
+    ensures { Wrote (further_text (drop 1 (segments_of table.entry.descriptor table.entry.cells.now))) output.old output.new }
 {
-    let mut k = at;
-    let mut i = 1;
-    while i < n {
-        k = put_next(out, k, table, descriptor, i);
-        i += 1;
+    for i in 1..table.count() {
+        output.push_all(b", ");
+        push_line(output, table.segment(i));
     }
-    put_byte(out, k, b')')
+    output.push(b')');
 }
 
-fn put_body(out: &mut [u8], at: usize, table: &[i32], descriptor: Descriptor, n: usize) -> usize
-    requires { (n ≡ size_of descriptor) × Held (pos (length table.now)) descriptor × (at + length (body_text (segments_of descriptor table.now)) ≤ length out.old) }
-    ensures { Written (body_text (segments_of descriptor table.now)) at out.old result out.new }
+fn push_body(output: &mut Output, table: Table)
+    requires { Room (length (body_text (segments_of table.descriptor table.cells.now))) output.old }
+    ensures { Wrote (body_text (segments_of table.entry.descriptor table.entry.cells.now)) output.old output.new }
 {
-    if n == 0 {
-        return put_word(out, at, b"EMPTY");
+    if table.count() == 0 {
+        output.push_all(b"EMPTY");
+        return;
     }
-    let open = put_byte(out, at, b'(');
-    let first = put_line(out, open, table, descriptor, 0);
-    put_further(out, first, table, descriptor, n)
+    output.push(b'(');
+    push_line(output, table.segment(0));
+    push_further(output, table);
 }
 
-pub fn put_text(out: &mut [u8], table: &[i32], descriptor: Descriptor, n: usize) -> usize
-    requires { (n ≡ size_of descriptor) × Held (pos (length table.now)) descriptor × (length (text_of (segments_of descriptor table.now)) ≤ length out.old) }
-    ensures { Written (text_of (segments_of descriptor table.now)) 0 out.old result out.new }
+fn push_text(output: &mut Output, table: Table)
+    requires { Room (length (text_of (segments_of table.descriptor table.cells.now))) output.old }
+    ensures { Wrote (text_of (segments_of table.entry.descriptor table.entry.cells.now)) output.old output.new }
 {
-    let body = put_word(out, 0, b"MULTILINESTRING ");
-    put_body(out, body, table, descriptor, n)
+    output.push_all(b"MULTILINESTRING ");
+    push_body(output, table);
+}
+
+/// Returns how many bytes it has put, from the first on.
+pub fn put_text(text: &mut [u8], table: Table) -> usize
+    requires { length (text_of (segments_of table.descriptor table.cells.now)) ≤ length text.old }
+    ensures ends { result ≡ length (text_of (segments_of table.entry.descriptor table.entry.cells.now)) }
+    ensures wrote { text.new ≡ put 0 (text_of (segments_of table.entry.descriptor table.entry.cells.now)) text.old }
+{
+    let mut output = Output {
+        bytes: text,
+        len: 0,
+    };
+    push_text(&mut output, table);
+    let Output { bytes: _, len } = output;
+    len
 }

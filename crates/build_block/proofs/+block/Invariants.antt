@@ -1,5 +1,6 @@
--- The count of positions falls.
+-- The part gets shorter.
+use Rattle.std.specs.Prelude.{length}
 use Rattle.build_block.proofs.+block.Given as goal
 
 abbrev pub decreases-block : goal.decreases-block
-decreases-block l = l.m
+decreases-block l = length l.part.now

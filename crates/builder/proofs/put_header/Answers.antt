@@ -1,24 +1,21 @@
 -- What the check leaves of `put_header`.
-use mir.Syntax.{w32}
-use mir.ValLaws.{to_z-of_z}
+use Rattle.std.proofs.Common.{w32}
+use Rattle.std.proofs.lemmas.Int.{to_z-of_z}
 use Rattle.whole.specs.Whole.{kept}
-use Rattle.build_block.specs.Blocks.{four_words}
+use Rattle.lists.specs.Parts.{put}
 use Rattle.builder.proofs.put_header.Goals as goal
 
 pub returns : goal.returns
+unfolding put
 returns c =
-    let s = c in
-    let a = s.args in
-    let w₁ = c.as_word in
-    let w₂ = c.as_word-2 in
-    let w₃ = c.as_word-3 in
+    let a = c.args in
     rw (
-      to_z-of_z w32 a.first s.ranges.first,
-      kept w32 w₁.result w₁.type_inv,
-      w₁.ensures,
-      kept w32 w₂.result w₂.type_inv,
-      w₂.ensures,
-      kept w32 w₃.result w₃.type_inv,
-      w₃.ensures,
+      c.copy_from_slice.ensures.after,
+      kept w32 c.as_word.result c.as_word.type_inv,
+      c.as_word.ensures,
+      to_z-of_z w32 a.first c.ranges.first,
+      kept w32 c.as_word-2.result c.as_word-2.type_inv,
+      c.as_word-2.ensures,
+      kept w32 c.as_word-3.result c.as_word-3.type_inv,
+      c.as_word-3.ensures,
     )
-    (four_words a.index.now _ _ _ _ s.requires.0)

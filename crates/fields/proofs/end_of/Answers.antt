@@ -1,15 +1,16 @@
 -- What the check leaves of `end_of`.
-use native.Mathlib.Omega.{arith}
-use Rattle.fields.specs.Marks.{ends_start, ends_more}
+use Rattle.std.proofs.Common.{◌-◌, length, drop, arith, length-drop, take_all}
+use Rattle.fields.specs.Marks.{ends_found, ends_last}
 use Rattle.fields.proofs.end_of.Goals as goal
 
-pub loop-i-init : goal.loop-i-init
-loop-i-init c =
-    (omega arith, c.requires, ends_start c.args.mark c.args.text.now c.args.a)
+pub returns-in-Some : goal.returns-in-Some
+returns-in-Some c =
+    let f = c.args.text.now in
+    let e = take_all (length f - c.args.a) (drop c.args.a f) (omega (arith, length-drop c.args.a f)) in
+    ends_found c.args.mark f c.requires c.in-Some.k (rw e at c.in-Some.ensures)
 
-pub loop-i-preserved : goal.loop-i-preserved
-loop-i-preserved c =
-    let s = c.args in
-    let l = c.loop-i in
-    let h = c.loop-i-test.true in
-    (omega (arith, l.invariant.0), omega arith, ends_more s.mark s.text.now l.invariant.0 h c.if-text-i.false l.invariant.2)
+pub returns-in-None : goal.returns-in-None
+returns-in-None c =
+    let f = c.args.text.now in
+    let e = take_all (length f - c.args.a) (drop c.args.a f) (omega (arith, length-drop c.args.a f)) in
+    ends_last c.args.mark f c.requires (rw e at c.in-None.ensures)

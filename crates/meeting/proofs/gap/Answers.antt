@@ -4,5 +4,5 @@ use Rattle.meeting.proofs.gap.Goals as goal
 
 pub returns : goal.returns
 returns c =
-    let s = c in let a = s.args in let p = s.requires in
-    gap_says a.lo a.hi a.u1 a.u2 p.0 p.1 p.2 p.3 c.smaller.ensures c.larger.ensures (record { sfits = c.larger-2.type_inv }) c.larger-2.ensures
+    let a = c.args in let p = c.requires in
+    gap_says a.lo a.hi a.u1 a.u2 p.0 p.1 p.2 p.3 c.min.ensures.value c.max.ensures.value (record { sfits = c.max-2.type_inv }) c.max-2.ensures.value

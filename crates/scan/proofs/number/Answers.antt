@@ -1,15 +1,18 @@
 -- What the check leaves of `number`.
-use mathlib.Core.Path.{◌∙◌}
-use mir.Syntax.{w32}
-use mir.ValLaws.{to_z-of_z}
-use Rattle.scan.specs.Listing.{sum_is, sum_narrow}
+use Rattle.std.specs.Int.{w32}
+use Rattle.std.proofs.Common.{refl, ◌∙◌}
+use Rattle.std.proofs.lemmas.Int.{to_z-of_z}
+use Rattle.scan.specs.Listing.{sum_fits, sum_is, sum_narrow}
 use Rattle.scan.proofs.number.Goals as goal
 
-pub narrow-requires : goal.narrow-requires
-narrow-requires c = let s = c in sum_narrow s.args.descriptor s.args.i s.requires.0 s.requires.1 c.first_number.ensures.value c.count.ensures.value
+pub overflow_add-result : goal.overflow_add-result
+overflow_add-result c = let a = c.args in sum_fits a.descriptor a.i c.requires.0 c.requires.1 c.first_number.ensures.value refl
+
+pub overflow_cast-result-2 : goal.overflow_cast-result-2
+overflow_cast-result-2 c = let a = c.args in sum_narrow a.descriptor a.i c.requires.0 c.requires.1 c.first_number.ensures.value refl
 
 pub returns : goal.returns
 returns c =
-    let s = c in
-    to_z-of_z w32 c.narrow.result c.narrow.ensures.fits ∙ c.narrow.ensures.value
-    ∙ sum_is s.args.descriptor s.args.i s.requires.0 s.requires.1 c.first_number.ensures.value c.count.ensures.value
+    let a = c.args in
+    let e = c.first_number.ensures.value in
+    to_z-of_z w32 _ (sum_narrow a.descriptor a.i c.requires.0 c.requires.1 e refl) ∙ sum_is a.descriptor a.i c.requires.0 c.requires.1 e refl

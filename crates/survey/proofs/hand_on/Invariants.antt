@@ -1,17 +1,7 @@
--- The loop of `hand_on`: the buffers keep their lengths, the reader stays sound and owes no output.
-use Rattle.std.proofs.Common.{◌≡◌, length}
+-- The loop of `hand_on`: the reader stays sound, and everything printed is written out.
 use Rattle.lines.specs.Reading.{Sound}
+use Rattle.survey.specs.Turns.{Empty}
 use Rattle.survey.proofs.hand_on.Given as goal
 
-abbrev pub invariant-loop-turns : goal.invariant-loop-turns
-invariant-loop-turns l =
-    (length l.carry ≡ length l.initial.carry)
-    × (length l.cells ≡ length l.initial.cells)
-    × (length l.index ≡ length l.initial.index)
-    × (length l.numbers ≡ length l.initial.numbers)
-    × (length l.out ≡ length l.initial.out)
-    × Sound l.x l.cells l.index l.carry
-    × (l.x.out ≡ 0)
-
-abbrev pub decreases-loop-turns : goal.decreases-loop-turns
-decreases-loop-turns l = l.turns
+abbrev pub invariant-loop : goal.invariant-loop
+invariant-loop l = record { sound : Sound l.after l.desk; empty : Empty l.out }

@@ -1,10 +1,7 @@
--- What the check leaves of `pass`.
-use mathlib.Core.Path.{sym, ap, subst}
-use Rattle.lines.specs.Reading.{Sound, over_sound}
+-- What the check leaves of `pass`: what is printed lies within the output.
+use Rattle.std.proofs.Common.{◌∙◌}
+use Rattle.texts.specs.Written.{wrote_length, wrote_within}
 use Rattle.survey.proofs.pass.Goals as goal
 
-pub returns : goal.returns
-returns c =
-    let f = c.feed-x in
-    let e = c.stopped.ensures in
-    (subst (λ x. Sound x f.new.cells f.new.index f.new.carry) (sym e) over_sound, ap (λ x. x.out) e)
+pub write_out-requires : goal.write_out-requires
+write_out-requires c = (wrote_within c.feed-after.ensures.wrote, wrote_length c.feed-after.ensures.wrote ∙ c.requires.1.1)

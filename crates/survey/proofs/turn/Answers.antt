@@ -1,10 +1,7 @@
--- What the check leaves of `turn`: after a reading error the reader that has stopped is sound.
-use Rattle.std.proofs.Common.{sym, ap, subst}
+-- What the check leaves of `turn`: the reader that has stopped is sound.
+use Rattle.std.proofs.Common.{sym, subst}
 use Rattle.lines.specs.Reading.{Sound, over_sound}
 use Rattle.survey.proofs.turn.Goals as goal
 
-pub returns-in-Err : goal.returns-in-Err
-returns-in-Err c =
-    let a = c.args in
-    let e = c.stopped.ensures in
-    (subst (λ x. Sound x a.cells.now a.index.now a.carry.now) (sym e) over_sound, ap (λ x. x.out) e)
+pub returns : goal.returns
+returns c = (subst (λ x. Sound x c.end.new.desk) (sym c.stopped.ensures) over_sound, c.in_ok-end.ensures)

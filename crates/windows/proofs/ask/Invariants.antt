@@ -1,8 +1,5 @@
--- The loops of `ask`.
-use mathlib.Core.Path.{◌≡◌}
-use mathlib.Core.Bool.{false}
-use Prim.Native.Nat.{ℕ, ◌≤◌, ◌<◌, ◌-◌}
-use lib.ListN.{length}
+-- The loop of `ask`.
+use Rattle.std.proofs.Common.{◌≡◌, false, ℕ, ◌<◌, length}
 use Rattle.paper.specs.Orders.{is_stopped}
 use Rattle.paper.specs.Walk.{walk_of}
 use Rattle.paper.specs.Windows.{window_at}
@@ -11,9 +8,6 @@ use Rattle.windows.proofs.ask.Given as goal
 
 abbrev pub invariant-loop-i : goal.invariant-loop-i
 invariant-loop-i l =
-    (l.i ≤ l.m) × ((k : ℕ) → k < l.i → is_stopped (walk_of l.words (window_at l.edges k)) ≡ false)
-    × Answers l.words (first_windows l.edges l.i) l.initial.counts l.initial.room l.due l.visits l.counts l.room
+    ((k : ℕ) → k < l.i → is_stopped (walk_of l.index.words.now (window_at l.windows.edges.now k)) ≡ false)
+    × Answers l.index.words.now (first_windows l.windows.edges.now l.i) l.initial.counts l.initial.room l.all.listed l.all.visits l.counts l.room
     × (length l.counts ≡ length l.initial.counts) × (length l.room ≡ length l.initial.room)
-
-abbrev pub decreases-loop-i : goal.decreases-loop-i
-decreases-loop-i l = l.m - l.i

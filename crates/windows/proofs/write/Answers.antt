@@ -2,5 +2,5 @@
 use Rattle.windows.specs.Outcome.{asked_again}
 use Rattle.windows.proofs.write.Goals as goal
 
-pub returns : goal.returns
-returns c = let w = c.requires.whole in asked_again w.1 c.args.counts.now c.args.numbers.now w.0.cells w.2 c.ask.ensures
+pub returns-clause-numbers_after : goal.returns-clause-numbers_after
+returns-clause-numbers_after c = (asked_again c.requires.kept c.args.counts.now c.args.numbers.now c.requires.fits.0 c.requires.fits.1 c.ask.result c.ask.ensures).1
