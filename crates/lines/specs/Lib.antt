@@ -1,4 +1,5 @@
--- Laws of the program: the state between lines, what a line does to it, and how the input falls into lines.
+-- Laws of the program: the memory that is lent, the state between lines, what a line does to it, and how the input falls into lines.
+pub mod Buffers
 pub mod States
 pub mod Filling
 pub mod Asking

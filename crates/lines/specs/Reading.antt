@@ -9,7 +9,7 @@ use Rattle.texts.specs.Written.{Room, Wrote, wrote_none, wrote_join}
 use Rattle.texts.specs.declared.Output.{Output}
 use Rattle.lines.specs.States.{number_of, state_of, Kept, Stepped}
 use Rattle.lines.specs.Cutting.{owed, fault_text, faulty, onward, line_cut, line_last, line_long, none_owed, program_is, Fed}
-use Rattle.lines.specs.declared.Desk.{Desk}
+use Rattle.lines.specs.declared.memory.Desk.{Desk}
 use Rattle.lines.specs.declared.Fault.{Fault}
 use Rattle.lines.specs.declared.Reader.{Reader}
 use Rattle.lines.specs.declared.State.{State}
@@ -80,12 +80,12 @@ module _ (line : Line) (s : State) (r : Reader) (place : ℕ) (cells : List ℤ)
 
 -- what a reader still prints for the text to come: nothing after a fault
 abbrev pub due_of : Reader → Desk → List ℕ → List ℕ
-due_of r desk text = by_state r.state (λ s. owed (state_of s desk.cells) r.line (take r.carried desk.carry ++ text))
+due_of r desk text = by_state r.state (λ s. owed (state_of s desk.cells.now) r.line (take r.carried desk.carry.now ++ text))
 
 -- the desk agrees with the reader: the table, the index, and the bytes of a line that were carried over
 pub record Sound (r : Reader) (desk : Desk) : Type 0 where
-  pub kept : KeptIn r.state desk.cells desk.index
-  pub clear : Clear line_feed (take r.carried desk.carry)
+  pub kept : KeptIn r.state desk.cells.now desk.index.now
+  pub clear : Clear line_feed (take r.carried desk.carry.now)
   pub short : r.carried ≤ 80
 
 -- there is a line to read, and room for what it prints
@@ -103,8 +103,8 @@ pub record Turned (r : Reader) (chunk : List ℕ) (desk : Desk) (out : Output) (
   pub sound : Sound x desk_after
 
 -- what the desk holds for a state that goes on
-pub kept_of : {r : Reader} {s : State} {desk : Desk} → Sound r desk → r.state ≡ Some s → Kept s desk.cells desk.index
-kept_of {r} {s} {desk} h e = subst (λ o. KeptIn o desk.cells desk.index) e h.kept
+pub kept_of : {r : Reader} {s : State} {desk : Desk} → Sound r desk → r.state ≡ Some s → Kept s desk.cells.now desk.index.now
+kept_of {r} {s} {desk} h e = subst (λ o. KeptIn o desk.cells.now desk.index.now) e h.kept
 
 module _ (r : Reader) (s : State) (chunk : List ℕ) (desk : Desk) (sound : Sound r desk) (going : r.state ≡ Some s) {e : ℕ} (ends : Ends line_feed chunk r.at e) where
   -- the bytes of the line that stand in the chunk, and all of them
@@ -112,66 +112,71 @@ module _ (r : Reader) (s : State) (chunk : List ℕ) (desk : Desk) (sound : Soun
   piece = take (e - r.at) (drop r.at chunk)
 
   abbrev pub bytes : List ℕ
-  bytes = take r.carried desk.carry ++ piece
+  bytes = take r.carried desk.carry.now ++ piece
 
   bytes_clear : Clear line_feed bytes
   bytes_clear = clear_join line_feed sound.clear ends.clear
 
   -- the text to come, by the line
-  split : (rest : List ℕ) → take r.carried desk.carry ++ (drop r.at chunk ++ rest) ≡ bytes ++ (drop e chunk ++ rest)
+  split : (rest : List ℕ) → take r.carried desk.carry.now ++ (drop r.at chunk ++ rest) ≡ bytes ++ (drop e chunk ++ rest)
   split rest =
-      ap (λ l. take r.carried desk.carry ++ (l ++ rest)) (part_rest chunk r.at e ends.starts)
-      ∙ ap (λ l. take r.carried desk.carry ++ l) (append_assoc piece (drop e chunk) rest)
-      ∙ sym (append_assoc (take r.carried desk.carry) piece (drop e chunk ++ rest))
+      ap (λ l. take r.carried desk.carry.now ++ (l ++ rest)) (part_rest chunk r.at e ends.starts)
+      ∙ ap (λ l. take r.carried desk.carry.now ++ l) (append_assoc piece (drop e chunk) rest)
+      ∙ sym (append_assoc (take r.carried desk.carry.now) piece (drop e chunk ++ rest))
 
-  due_split : (rest : List ℕ) → due_of r desk (drop r.at chunk ++ rest) ≡ owed (state_of s desk.cells) r.line (bytes ++ (drop e chunk ++ rest))
+  due_split : (rest : List ℕ) → due_of r desk (drop r.at chunk ++ rest) ≡ owed (state_of s desk.cells.now) r.line (bytes ++ (drop e chunk ++ rest))
   due_split rest =
-      ap (λ o. by_state o (λ s. owed (state_of s desk.cells) r.line (take r.carried desk.carry ++ (drop r.at chunk ++ rest)))) going
-      ∙ ap (owed (state_of s desk.cells) r.line) (split rest)
+      ap (λ o. by_state o (λ s. owed (state_of s desk.cells.now) r.line (take r.carried desk.carry.now ++ (drop r.at chunk ++ rest)))) going
+      ∙ ap (owed (state_of s desk.cells.now) r.line) (split rest)
 
   -- a line that is whole
-  pub turned_line : e < length chunk → {out : Output} {x : Reader} {desk_after : Desk} {out_after : Output} → Judged (line_of bytes) s r (e + 1) desk.cells out x desk_after.cells desk_after.index out_after → Turned r chunk desk out x desk_after out_after
+  pub turned_line : e < length chunk → {out : Output} {x : Reader} {desk_after : Desk} {out_after : Output} → Judged (line_of bytes) s r (e + 1) desk.cells.now out x desk_after.cells.now desk_after.index.now out_after → Turned r chunk desk out x desk_after out_after
   turned_line inside {out} {x} {desk_after} {out_after} j = record {
     text = j.text;
     fed = λ rest.
         due_split rest
-        ∙ ap (λ l. owed (state_of s desk.cells) r.line (bytes ++ (l ++ rest))) (drop-cons chunk e 0 inside ∙ ap (λ k. get_or chunk e 0 ∷ drop k chunk) (sym (add-one e)))
-        ∙ line_cut bytes_clear (get_or chunk e 0) (drop (e + 1) chunk ++ rest) (ends.stops inside) (state_of s desk.cells) r.line
+        ∙ ap (λ l. owed (state_of s desk.cells.now) r.line (bytes ++ (l ++ rest))) (drop-cons chunk e 0 inside ∙ ap (λ k. get_or chunk e 0 ∷ drop k chunk) (sym (add-one e)))
+        ∙ line_cut bytes_clear (get_or chunk e 0) (drop (e + 1) chunk ++ rest) (ends.stops inside) (state_of s desk.cells.now) r.line
         ∙ j.prints (λ s'. owed s' (r.line + 1) (drop (e + 1) chunk ++ rest))
         ∙ ap (λ l. j.text ++ l) (rests rest x.state j.next);
     wrote = j.wrote;
     sound = record {
       kept = j.kept;
-      clear = subst (λ n. Clear line_feed (take n desk_after.carry)) (sym j.fresh) (clear_nil line_feed);
+      clear = subst (λ n. Clear line_feed (take n desk_after.carry.now)) (sym j.fresh) (clear_nil line_feed);
       short = omega (arith, j.fresh);
     };
   }
     where
-      rests : (rest : List ℕ) (o : Option State) → NextLine o r.line x.line → by_state o (λ s'. owed (state_of s' desk_after.cells) (r.line + 1) (drop (e + 1) chunk ++ rest)) ≡ by_state o (λ s'. owed (state_of s' desk_after.cells) x.line (take x.carried desk_after.carry ++ (drop x.at chunk ++ rest)))
+      rests : (rest : List ℕ) (o : Option State) → NextLine o r.line x.line → by_state o (λ s'. owed (state_of s' desk_after.cells.now) (r.line + 1) (drop (e + 1) chunk ++ rest)) ≡ by_state o (λ s'. owed (state_of s' desk_after.cells.now) x.line (take x.carried desk_after.carry.now ++ (drop x.at chunk ++ rest)))
       rests rest None h = refl
       rests rest (Some s') h =
-          ap₂ (λ k l. owed (state_of s' desk_after.cells) k (l ++ (drop (e + 1) chunk ++ rest))) (sym h) (ap (λ n. take n desk_after.carry) (sym j.fresh))
-          ∙ ap (λ p. owed (state_of s' desk_after.cells) x.line (take x.carried desk_after.carry ++ (drop p chunk ++ rest))) (sym j.place_is)
+          ap₂ (λ k l. owed (state_of s' desk_after.cells.now) k (l ++ (drop (e + 1) chunk ++ rest))) (sym h) (ap (λ n. take n desk_after.carry.now) (sym j.fresh))
+          ∙ ap (λ p. owed (state_of s' desk_after.cells.now) x.line (take x.carried desk_after.carry.now ++ (drop p chunk ++ rest))) (sym j.place_is)
 
   -- a line that is too long: the fault is printed before its end is seen
   pub turned_long : 80 < length bytes → {out : Output} {place : ℕ} {out_after : Output} → Wrote (fault_text 0 r.line) out out_after → Turned r chunk desk out (refused_at r place) desk out_after
   turned_long long w = record {
     text = fault_text 0 r.line;
-    fed = λ rest. due_split rest ∙ line_long bytes bytes_clear long (drop e chunk ++ rest) (state_of s desk.cells) r.line ∙ sym (append-nil (fault_text 0 r.line));
+    fed = λ rest. due_split rest ∙ line_long bytes bytes_clear long (drop e chunk ++ rest) (state_of s desk.cells.now) r.line ∙ sym (append-nil (fault_text 0 r.line));
     wrote = w;
     sound = record { kept = omega arith; clear = clear_nil line_feed; short = omega arith };
   }
 
   -- a line that goes over the chunk's end
-  pub turned_over : {n : ℕ} {out : Output} {carry : List ℕ} → Room 0 out → n ≤ 80 → take n carry ≡ bytes → Turned r chunk desk out (record r { carried = n; at = e }) (record desk { carry = carry }) out
-  turned_over {n} {out} {carry} h k c = record {
+  pub turned_over : {n : ℕ} {out : Output} {desk_after : Desk} → Room 0 out → n ≤ 80 → desk_after.cells.now ≡ desk.cells.now → desk_after.index.now ≡ desk.index.now → take n desk_after.carry.now ≡ bytes → Turned r chunk desk out (record r { carried = n; at = e }) desk_after out
+  turned_over {n} {out} {desk_after} h k cs ws c = record {
     text = [];
     fed = λ rest.
         due_split rest
-        ∙ ap (λ l. owed (state_of s desk.cells) r.line (l ++ (drop e chunk ++ rest))) (sym c)
-        ∙ sym (ap (λ o. by_state o (λ s. owed (state_of s desk.cells) r.line (take n carry ++ (drop e chunk ++ rest)))) going);
+        ∙ ap (λ l. owed (state_of s desk.cells.now) r.line (l ++ (drop e chunk ++ rest))) (sym c)
+        ∙ ap (λ l. owed (state_of s l) r.line (take n desk_after.carry.now ++ (drop e chunk ++ rest))) (sym cs)
+        ∙ sym (ap (λ o. by_state o (λ s. owed (state_of s desk_after.cells.now) r.line (take n desk_after.carry.now ++ (drop e chunk ++ rest)))) going);
     wrote = wrote_none (omega (arith, h));
-    sound = record { kept = sound.kept; clear = subst (Clear line_feed) (sym c) bytes_clear; short = k };
+    sound = record {
+      kept = subst (λ l. KeptIn r.state l desk_after.index.now) (sym cs) (subst (λ l. KeptIn r.state desk.cells.now l) (sym ws) sound.kept);
+      clear = subst (Clear line_feed) (sym c) bytes_clear;
+      short = k;
+    };
   }
 
 -- ---- turn after turn
@@ -196,22 +201,22 @@ pub finished_none : (r : Reader) (desk : Desk) (out : Output) → due_of r desk 
 finished_none r desk out e h = record { text = []; all = e; wrote = wrote_none (omega (arith, h)) }
 
 pub ended_owes : (r : Reader) (desk : Desk) → r.state ≡ None → due_of r desk [] ≡ []
-ended_owes r desk e = ap (λ o. by_state o (λ s. owed (state_of s desk.cells) r.line (take r.carried desk.carry ++ []))) e
+ended_owes r desk e = ap (λ o. by_state o (λ s. owed (state_of s desk.cells.now) r.line (take r.carried desk.carry.now ++ []))) e
 
 module _ (r : Reader) (s : State) (desk : Desk) (going : r.state ≡ Some s) where
-  going_owes : due_of r desk [] ≡ owed (state_of s desk.cells) r.line (take r.carried desk.carry ++ [])
-  going_owes = ap (λ o. by_state o (λ s. owed (state_of s desk.cells) r.line (take r.carried desk.carry ++ []))) going
+  going_owes : due_of r desk [] ≡ owed (state_of s desk.cells.now) r.line (take r.carried desk.carry.now ++ [])
+  going_owes = ap (λ o. by_state o (λ s. owed (state_of s desk.cells.now) r.line (take r.carried desk.carry.now ++ []))) going
 
   pub empty_owes : r.carried ≡ 0 → due_of r desk [] ≡ []
-  empty_owes z = going_owes ∙ ap (λ n. owed (state_of s desk.cells) r.line (take n desk.carry ++ [])) z ∙ none_owed (state_of s desk.cells) r.line
+  empty_owes z = going_owes ∙ ap (λ n. owed (state_of s desk.cells.now) r.line (take n desk.carry.now ++ [])) z ∙ none_owed (state_of s desk.cells.now) r.line
 
-  pub finished_line : Sound r desk → 0 < length (take r.carried desk.carry) → {place : ℕ} {out : Output} {x : Reader} {cells_after index_after : List ℤ} {out_after : Output} → Judged (line_of (take r.carried desk.carry)) s r place desk.cells out x cells_after index_after out_after → Finished r desk out out_after
+  pub finished_line : Sound r desk → 0 < length (take r.carried desk.carry.now) → {place : ℕ} {out : Output} {x : Reader} {cells_after index_after : List ℤ} {out_after : Output} → Judged (line_of (take r.carried desk.carry.now)) s r place desk.cells.now out x cells_after index_after out_after → Finished r desk out out_after
   finished_line sound l {x = x} {cells_after = cells_after} j = record {
     text = j.text;
     all =
         going_owes
-        ∙ ap (owed (state_of s desk.cells) r.line) (append-nil (take r.carried desk.carry))
-        ∙ line_last (take r.carried desk.carry) sound.clear l (state_of s desk.cells) r.line
+        ∙ ap (owed (state_of s desk.cells.now) r.line) (append-nil (take r.carried desk.carry.now))
+        ∙ line_last (take r.carried desk.carry.now) sound.clear l (state_of s desk.cells.now) r.line
         ∙ j.prints (λ s'. [])
         ∙ ap (λ t. j.text ++ t) (none x.state)
         ∙ append-nil j.text;
@@ -272,5 +277,5 @@ pub fault_is_program : {x : Reader} {chunk : List ℕ} {desk desk_after : Desk} 
 fault_is_program {x} {chunk} {desk} {desk_after} t e rest =
     sym (start_owes (chunk ++ rest) desk)
     ∙ t.fed rest
-    ∙ ap (λ o. t.text ++ by_state o (λ s. owed (state_of s desk_after.cells) x.line (take x.carried desk_after.carry ++ (drop x.at chunk ++ rest)))) e
+    ∙ ap (λ o. t.text ++ by_state o (λ s. owed (state_of s desk_after.cells.now) x.line (take x.carried desk_after.carry.now ++ (drop x.at chunk ++ rest)))) e
     ∙ append-nil t.text

@@ -1,6 +1,7 @@
 -- The code's state as `paper`'s, and what T and S lines do to it.
 use Rattle.std.specs.Prelude.{◌≡◌, true, false, List, [], ◌∷◌, ℕ, ◌≤◌, ◌<◌, ℤ, pos, take, replicate}
 use Rattle.std.proofs.Math.Path.{refl}
+use Rattle.std.proofs.Common.{◌∙◌}
 use native.Mathlib.Omega.{arith}
 use Rattle.lists.specs.Plain.{positions}
 use Rattle.paper.specs.Descriptor.{first_number, segment_of, segments_of}
@@ -17,7 +18,7 @@ use Rattle.std.specs.Prelude.{Result, Ok, Err}
 use Rattle.texts.specs.Written.{Wrote}
 use Rattle.texts.specs.declared.Output.{Output}
 use Rattle.lines.specs.declared.Table.{Table}
-use Rattle.lines.specs.declared.Desk.{Desk}
+use Rattle.lines.specs.declared.memory.Desk.{Desk}
 use Rattle.lines.specs.declared.Fault.{Fault}
 use Rattle.lines.specs.declared.Fault.TheVariants.{Form, Kind, Lower, Size, Far, Slanted, Window as BadWindow}
 use Rattle.lines.specs.declared.State.{State}
@@ -170,7 +171,21 @@ pub record Stepped (s : State) (line : Line) (cells : List ℤ) (out : Output) (
 
 -- ---- a desk before the input: nothing on it
 pub record Blank (desk : Desk) : Type 0 where
-  pub cells : desk.cells ≡ replicate 1024 (pos 0)
-  pub index : desk.index ≡ replicate 7684 (pos 0)
-  pub numbers : desk.numbers ≡ replicate 256 (pos 0)
-  pub carry : desk.carry ≡ replicate 80 0
+  pub cells : desk.cells.now ≡ replicate 1024 (pos 0)
+  pub index : desk.index.now ≡ replicate 7684 (pos 0)
+  pub numbers : desk.numbers.now ≡ replicate 256 (pos 0)
+  pub carry : desk.carry.now ≡ replicate 80 0
+
+-- ---- a desk after a call: its memory is still that which was lent
+pub record SameLoans (desk desk_after : Desk) : Type 0 where
+  pub cells : desk_after.cells.ghost_name ≡ desk.cells.ghost_name
+  pub index : desk_after.index.ghost_name ≡ desk.index.ghost_name
+  pub numbers : desk_after.numbers.ghost_name ≡ desk.numbers.ghost_name
+  pub carry : desk_after.carry.ghost_name ≡ desk.carry.ghost_name
+
+-- at no call, and from call to call
+pub same_desk : (desk : Desk) → SameLoans desk desk
+same_desk desk = record { cells = refl; index = refl; numbers = refl; carry = refl }
+
+pub same_join : {a b c : Desk} → SameLoans a b → SameLoans b c → SameLoans a c
+same_join f g = record { cells = g.cells ∙ f.cells; index = g.index ∙ f.index; numbers = g.numbers ∙ f.numbers; carry = g.carry ∙ f.carry }

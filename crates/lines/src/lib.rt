@@ -7,12 +7,15 @@ ghost use Rattle.lists.specs.Parts.{put};
 ghost use Rattle.paper.specs.Answers.{far_off};
 ghost use Rattle.fields.specs.Forms.{shown_line};
 ghost use Rattle.texts.specs.Written.{Room, Wrote};
-ghost use Rattle.lines.specs.States.{number_of, cells_of, descriptor_of, Opened, Fits, Added, answer_over, Kept, Asked, Stepped, Blank};
+ghost use Rattle.lines.specs.States.{number_of, cells_of, descriptor_of, Opened, Fits, Added, answer_over, Kept, Asked, Stepped, SameLoans};
 ghost use Rattle.lines.specs.declared.State.TheVariants.{Filling};
 ghost use Rattle.lines.specs.Cutting.{fault_text};
 ghost use Rattle.lines.specs.Reading.{started, on_chunk, over, refused_at, Judged, Sound, Goes, Turned, Finished};
 
+mod memory;
+
 use fields::Line;
+pub use memory::Desk;
 use paper::{Descriptor, Segment, Window};
 use texts::Output;
 
@@ -107,8 +110,8 @@ impl Table {
     }
 
     // With a segment after those that it has.
-    fn added(self, s: Segment, cells: &mut [i32; 1024]) -> Result<Table, Fault>
-        requires { Fits self cells.old }
+    fn added(self, s: Segment, cells: &mut [i32]) -> Result<Table, Fault>
+        requires { (length cells.old ≡ 1024) × Fits self cells.old }
         ensures { Added self s cells.old result cells.new }
     {
         let n = self.size;
@@ -130,8 +133,8 @@ impl Table {
     }
 
     // The A line of a window over an index that is built.
-    fn answer(self, w: Window, index: &[i32; WORDS], numbers: &mut [i32; 256], out: &mut Output)
-        requires { (self.size ≤ 256) × Room 5420 out.old }
+    fn answer(self, w: Window, index: &[i32], numbers: &mut [i32], out: &mut Output)
+        requires { (self.size ≤ 256) × (length index.now ≡ 7684) × (length numbers.old ≡ 256) × Room 5420 out.old }
         ensures { Wrote (answer_over self w index.now) out.old out.new }
     {
         let n = self.size;
@@ -144,11 +147,11 @@ impl Table {
     fn asked(
         self,
         line: Line,
-        index: &[i32; WORDS],
-        numbers: &mut [i32; 256],
+        index: &[i32],
+        numbers: &mut [i32],
         out: &mut Output,
     ) -> Result<(), Fault>
-        requires { (self.size ≤ 256) × Room 5420 out.old }
+        requires { (self.size ≤ 256) × (length index.now ≡ 7684) × (length numbers.old ≡ 256) × Room 5420 out.old }
         ensures { Asked self (shown_line line) index.now out.old result out.new }
     {
         let Line::Window(w) = line else {
@@ -163,11 +166,12 @@ impl Table {
 
     // A line after the T line, before the first W line. That one has the index built: no S line can follow it.
     fn filled(self, line: Line, desk: &mut Desk, out: &mut Output) -> Result<State, Fault>
-        requires { Room 5420 out.old × Fits self desk.old.cells }
-        ensures { Stepped (Filling self) (shown_line line) desk.old.cells out.old result desk.new.cells desk.new.index out.new }
+        requires { Room 5420 out.old × Fits self desk.old.cells.now }
+        ensures stepped { Stepped (Filling self) (shown_line line) desk.old.cells.now out.old result desk.new.cells.now desk.new.index.now out.new }
+        ensures lent { SameLoans desk.old desk.new }
     {
         if let Line::Segment(s) = line {
-            let grown = self.added(s, &mut desk.cells)?;
+            let grown = self.added(s, desk.cells)?;
             return Ok(State::Filling(grown));
         }
         let Line::Window(w) = line else {
@@ -176,34 +180,12 @@ impl Table {
         if meeting::bad_window(w) {
             return Err(Fault::Window);
         }
-        marks::build(&desk.cells, self.descriptor(), &mut desk.index);
-        self.answer(w, &desk.index, &mut desk.numbers, out);
+        // by names of their own: of a slice that is read through `desk`, only the length is known afterwards
+        let cells = &mut *desk.cells;
+        let index = &mut *desk.index;
+        marks::build(cells, self.descriptor(), index);
+        self.answer(w, index, desk.numbers, out);
         Ok(State::Asking(self))
-    }
-}
-
-/// How many words the index of 256 segments takes.
-pub const WORDS: usize = 7684;
-
-/// The memory of a reading: the table's cells, the words of its index, the numbers of an answer, and the bytes of a line carried over from the chunks before.
-#[derive(Drop)]
-pub struct Desk {
-    pub cells: [i32; 1024],
-    pub index: [i32; WORDS],
-    pub numbers: [i32; 256],
-    pub carry: [u8; 80],
-}
-
-impl Desk {
-    pub fn new() -> Desk
-        ensures { Blank result }
-    {
-        Desk {
-            cells: [0; 1024],
-            index: [0; WORDS],
-            numbers: [0; 256],
-            carry: [0; 80],
-        }
     }
 }
 
@@ -221,8 +203,9 @@ pub enum State {
 impl State {
     // One line, judged.
     fn step(self, line: Line, desk: &mut Desk, out: &mut Output) -> Result<State, Fault>
-        requires { Room 5420 out.old × Kept self desk.old.cells desk.old.index }
-        ensures { Stepped self (shown_line line) desk.old.cells out.old result desk.new.cells desk.new.index out.new }
+        requires { Room 5420 out.old × Kept self desk.old.cells.now desk.old.index.now }
+        ensures stepped { Stepped self (shown_line line) desk.old.cells.now out.old result desk.new.cells.now desk.new.index.now out.new }
+        ensures lent { SameLoans desk.old desk.new }
     {
         match self {
             State::Start => {
@@ -231,7 +214,9 @@ impl State {
             }
             State::Filling(table) => table.filled(line, desk, out),
             State::Asking(table) => {
-                table.asked(line, &desk.index, &mut desk.numbers, out)?;
+                // by a name of its own, as in `filled`
+                let index = &mut *desk.index;
+                table.asked(line, index, desk.numbers, out)?;
                 Ok(State::Asking(table))
             }
         }
@@ -298,8 +283,9 @@ impl Reader {
         desk: &mut Desk,
         out: &mut Output,
     ) -> Reader
-        requires { Room 5420 out.old × Kept state desk.old.cells desk.old.index × (self.line < 4611686018427387904) }
-        ensures { Judged (shown_line line) state self next desk.old.cells out.old result desk.new.cells desk.new.index out.new }
+        requires { Room 5420 out.old × Kept state desk.old.cells.now desk.old.index.now × (self.line < 4611686018427387904) }
+        ensures judged { Judged (shown_line line) state self next desk.old.cells.now out.old result desk.new.cells.now desk.new.index.now out.new }
+        ensures lent { SameLoans desk.old desk.new }
     {
         match state.step(line, desk, out) {
             Ok(after) => Reader {
@@ -317,6 +303,7 @@ impl Reader {
     fn cut(self, state: State, chunk: &[u8], desk: &mut Desk, out: &mut Output) -> Reader
         requires { Sound self desk.old × Goes self state (length chunk.now) out.old }
         ensures turned { Turned self chunk.now desk.old out.old result desk.new out.new }
+        ensures lent { SameLoans desk.old desk.new }
         ensures further { self.at < result.at }
     {
         let at = self.at;
@@ -360,7 +347,8 @@ impl Reader {
     /// The lines of a chunk from the reader's place on, until the chunk ends, the output is nearly full, or a fault ends it.
     pub fn feed(self, chunk: &[u8], desk: &mut Desk, out: &mut Output) -> Reader
         requires { Sound self desk.old × Room 0 out.old }
-        ensures { Turned self chunk.now desk.old out.old result desk.new out.new }
+        ensures turned { Turned self chunk.now desk.old out.old result desk.new out.new }
+        ensures lent { SameLoans desk.old desk.new }
     {
         let mut reader = self;
         while let Some(state) = reader.ready(chunk.len(), out) {
@@ -372,7 +360,8 @@ impl Reader {
     /// The end of the input: the last line, where its line feed is missing.
     pub fn finish(self, desk: &mut Desk, out: &mut Output) -> Reader
         requires { Sound self desk.old × Room 5420 out.old × (self.line < 4611686018427387904) }
-        ensures { Finished self desk.old out.old out.new }
+        ensures finished { Finished self desk.old out.old out.new }
+        ensures lent { SameLoans desk.old desk.new }
     {
         let Some(state) = self.state else {
             return self;

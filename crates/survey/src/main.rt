@@ -106,7 +106,11 @@ fn run(input: Stdin, output: Stdout, desk: &mut Desk, out: &mut Output) -> io::R
 }
 
 fn main(rt: HostRuntime) {
-    let mut desk = Desk::new();
+    let mut cells = [0i32; 1024];
+    let mut index = [0i32; 7684];
+    let mut numbers = [0i32; 256];
+    let mut carry = [0u8; 80];
+    let mut desk = Desk::new(&mut cells, &mut index, &mut numbers, &mut carry);
     let mut bytes = [0u8; 65536];
     let mut out = Output {
         bytes: &mut bytes,

@@ -1,5 +1,5 @@
 -- What the check leaves of `cut`.
-use Rattle.std.proofs.Common.{◌≡◌, ◌≤◌, ◌++◌, ◌+◌, ◌-◌, ℕ, List, length, take, drop, sym, ap, ◌∙◌, subst, rules, arith, length-append, length-drop, length-take-le}
+use Rattle.std.proofs.Common.{◌≡◌, refl, ◌≤◌, ◌++◌, ◌+◌, ◌-◌, ℕ, List, length, take, drop, sym, ap, ◌∙◌, subst, arith, length-append, length-drop, length-take-le}
 use Rattle.paper.specs.Lines.{line_of}
 use borrow.Rule.Slice.PartMut.{put_mid}
 use Rattle.lists.specs.Parts.{put, lent}
@@ -27,22 +27,22 @@ returns-then-e-chunk-clause-turned c =
     let a = c.args in
     let t = c.end_of-e in
     let j = c.judge in
-    let e = c.line_of-line.ensures ∙ ap (λ n. line_of (take n a.desk.now.carry ++ take (t.result - a.self.at) (drop a.self.at a.chunk.now))) (sym c.if-n-eq0.true) in
+    let e = c.line_of-line.ensures ∙ ap (λ n. line_of (take n a.desk.now.carry.now ++ take (t.result - a.self.at) (drop a.self.at a.chunk.now))) (sym c.if-n-eq0.true) in
     turned_line a.self a.state a.chunk.now a.desk.now c.requires.0 c.requires.1.going t.ensures c.if-e-chunk.true
-    (subst (λ l. Judged l a.state a.self (t.result + 1) a.desk.now.cells a.out.now j.result j.new.desk.cells j.new.desk.index j.new.out) e j.ensures)
+    (subst (λ l. Judged l a.state a.self (t.result + 1) a.desk.now.cells.now a.out.now j.result j.new.desk.cells.now j.new.desk.index.now j.new.out) e j.ensures.judged)
 
 pub returns-then-long-clause-turned : goal.returns-then-long-clause-turned
 returns-then-long-clause-turned c =
     let a = c.args in
     let t = c.end_of-e in
-    let l : length a.desk.now.carry ≡ 80 = search rules in
+    let l = a.desk.now.lengths.carries in
     rw c.refused.ensures.reader
     (turned_long a.self a.state a.chunk.now a.desk.now c.requires.0 c.requires.1.going t.ensures
     (omega (
       arith,
       c.if-long.true,
-      length-append (take a.self.carried a.desk.now.carry) (take (t.result - a.self.at) (drop a.self.at a.chunk.now)),
-      length-take-le a.self.carried a.desk.now.carry (omega (arith, c.requires.0.short)),
+      length-append (take a.self.carried a.desk.now.carry.now) (take (t.result - a.self.at) (drop a.self.at a.chunk.now)),
+      length-take-le a.self.carried a.desk.now.carry.now (omega (arith, c.requires.0.short)),
       piece_length a.chunk.now t.ensures.starts t.ensures.within,
     ))
     c.refused.ensures.wrote)
@@ -52,17 +52,17 @@ returns-then-e-chunk-2-clause-turned c =
     let a = c.args in
     let t = c.end_of-e in
     let j = c.judge-then-e-chunk-2 in
-    let l : length a.desk.now.carry ≡ 80 = search rules in
-    let w = stored a.self.carried t.result a.self.at a.desk.now.carry a.chunk.now c.copy_from_slice.new.self t.ensures.starts t.ensures.within c.copy_from_slice.ensures.after in
-    let k = carried a.desk.now.carry a.chunk.now (omega (arith, c.requires.0.short)) t.ensures.starts t.ensures.within w in
+    let l = a.desk.now.lengths.carries in
+    let w = stored a.self.carried t.result a.self.at a.desk.now.carry.now a.chunk.now c.copy_from_slice.new.self t.ensures.starts t.ensures.within c.copy_from_slice.ensures.after in
+    let k = carried a.desk.now.carry.now a.chunk.now (omega (arith, c.requires.0.short)) t.ensures.starts t.ensures.within w in
     turned_line a.self a.state a.chunk.now a.desk.now c.requires.0 c.requires.1.going t.ensures c.if-e-chunk-2.true
-    (subst (λ l. Judged l a.state a.self (t.result + 1) a.desk.now.cells a.out.now j.result j.new.desk.cells j.new.desk.index j.new.out) (c.line_of-line-then-e-chunk-2.ensures ∙ ap line_of k) j.ensures)
+    (subst (λ l. Judged l a.state a.self (t.result + 1) a.desk.now.cells.now a.out.now j.result j.new.desk.cells.now j.new.desk.index.now j.new.out) (c.line_of-line-then-e-chunk-2.ensures ∙ ap line_of k) j.ensures.judged)
 
 pub returns-clause-turned : goal.returns-clause-turned
 returns-clause-turned c =
     let a = c.args in
     let t = c.end_of-e in
-    let l : length a.desk.now.carry ≡ 80 = search rules in
-    let w = stored a.self.carried t.result a.self.at a.desk.now.carry a.chunk.now c.copy_from_slice.new.self t.ensures.starts t.ensures.within c.copy_from_slice.ensures.after in
-    let k = carried a.desk.now.carry a.chunk.now (omega (arith, c.requires.0.short)) t.ensures.starts t.ensures.within w in
-    turned_over a.self a.state a.chunk.now a.desk.now c.requires.0 c.requires.1.going t.ensures (omega (arith, c.requires.1.room)) c.if-long.false k
+    let l = a.desk.now.lengths.carries in
+    let w = stored a.self.carried t.result a.self.at a.desk.now.carry.now a.chunk.now c.copy_from_slice.new.self t.ensures.starts t.ensures.within c.copy_from_slice.ensures.after in
+    let k = carried a.desk.now.carry.now a.chunk.now (omega (arith, c.requires.0.short)) t.ensures.starts t.ensures.within w in
+    turned_over a.self a.state a.chunk.now a.desk.now c.requires.0 c.requires.1.going t.ensures (omega (arith, c.requires.1.room)) c.if-long.false refl refl k

@@ -21,4 +21,4 @@ returns c =
     let k = to_z-of_z w64 a.self.kind (search rules) in
     let l = to_z-of_z w64 a.self.lower (search rules) in
     rw (k, l, c.put_segment.ensures)
-    (S_good a.self a.s a.cells.now c.if-full.false (search rules) c.requires (sym c.far_off.ensures ∙ c.if-far_off.false) (sym c.slanted.ensures ∙ c.if-slanted.false))
+    (S_good a.self a.s a.cells.now c.if-full.false c.requires.0 c.requires.1 (sym c.far_off.ensures ∙ c.if-far_off.false) (sym c.slanted.ensures ∙ c.if-slanted.false))
