@@ -1,6 +1,6 @@
 -- What the call for many windows gives along its order 9, 14, 8, 10, 7, from what is found when the windows are asked in turn; and that what `queried_many`
 -- gives keeps the promises (`with_promise`).
-use Rattle.std.specs.Prelude.{◌≡◌, Bool, true, false, not, ◌||◌, List, map, ℕ, ◌*◌, ◌≤◌, ◌<◌, eqb, ltb, ℤ, pos, length, take, Some, None, Result, Ok, Err}
+use Rattle.std.specs.Prelude.{◌≡◌, refl, Bool, true, false, not, ◌||◌, List, [], map, ℕ, ◌*◌, ◌≤◌, ◌<◌, eqb, ltb, ℤ, pos, length, take, Some, None, Result, Ok, Err}
 use Rattle.std.proofs.Common.{sym, ap, subst, ◌∙◌, arith, ltb-false}
 use Rattle.std.proofs.lemmas.List.{length-map}
 use Rattle.lists.specs.Plain.{joined, filter, positions}
@@ -19,7 +19,7 @@ use Rattle.promise.specs.Many.{due_to, all_due, many_done, many_short}
 use Rattle.refusals.specs.Orders.{answer_of}
 use Rattle.refusals.specs.declared.Refusal.{Refusal}
 use Rattle.tally.specs.declared.Tally.{Tally}
-use Rattle.windows.specs.Asking.{first_windows, windows_length, Answers, Sought, Found}
+use Rattle.windows.specs.Asking.{first_windows, windows_length, Answers, nothing_asked, Sought, Found}
 
 -- a slice that 14 passes has a count cell for each window
 pub slice_cells : (edges counts : List ℤ) → (bad_slice edges (length counts)).given ≡ false → window_count edges ≤ length counts
@@ -35,6 +35,14 @@ counts_due ws edges m = map (λ w. pos (due_by (walk_of ws w))) (first_windows e
 
 abbrev pub numbers_due : (ws edges : List ℤ) → ℕ → List ℤ
 numbers_due ws edges m = joined (map (due_to ws) (first_windows edges m))
+
+none_counted : (ws edges counts : List ℤ) → counts ≡ over (counts_due ws edges 0) counts
+unfolding positions
+none_counted ws edges counts = refl
+
+none_listed : (ws edges numbers : List ℤ) → numbers ≡ over (numbers_due ws edges 0) numbers
+unfolding positions joined
+none_listed ws edges numbers = refl
 
 counts_length : (ws edges : List ℤ) (m : ℕ) → length (counts_due ws edges m) ≡ m
 counts_length ws edges m = length-map (first_windows edges m) (λ w. pos (due_by (walk_of ws w))) ∙ windows_length edges m
@@ -148,3 +156,9 @@ module _ (ws edges counts numbers : List ℤ) where
           all_done h c n =
               (λ i. (done (answers.due_are i) (answers.visits_are i), c i, n i))
               ∙ sym (many_done ws e9 edges counts numbers e14 e8 e10 (omega (arith, answers.due_are, h)))
+
+        -- no windows: nothing is asked, and no cell changes
+        pub none_asked : window_count edges ≡ 0 → (done 0 0, counts, numbers) ≡ queried_many ws edges counts numbers
+        none_asked z =
+            all_done {counts₀ = counts} {room₀ = numbers} (record { listed = 0; visits = 0 }) {kept = counts} {room = numbers} (rw z (λ k h. absurd (omega arith), nothing_asked ws edges counts numbers)) (omega arith)
+            (rw z (none_counted ws edges counts)) (rw z (none_listed ws edges numbers))

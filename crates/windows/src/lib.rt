@@ -145,6 +145,10 @@ fn answer(
     ensures given { (reply_of result, counts.new, numbers.new) ≡ queried_many index.entry.words.now windows.entry.edges.now counts.old numbers.old }
     ensures carried { IfErr result Carried }
 {
+    // No window is asked: the rooms need not be cleared, which would be all of the time.
+    if windows.count() == 0 {
+        return Ok(refusals::done(0, 0));
+    }
     let mut kept = [0i32; 64];
     let mut room = [0i32; 8192];
     let asked = match ask(index, windows, &mut kept, &mut room) {
