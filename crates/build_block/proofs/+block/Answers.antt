@@ -1,7 +1,7 @@
 -- What the check leaves of `block`: prepared, its queues, then the two blocks in the parts lent on.
 use Rattle.std.specs.Prelude.{◌≡◌, List, [], ◌∷◌, ℕ, ◌+◌, ◌-◌, ◌*◌, ◌/◌, ◌≤◌, ◌<◌, ℤ, length, take, drop}
 use Rattle.std.proofs.Common.{rules, sym, ap, ◌∙◌, arith}
-use borrow.Rule.Slice.PartMut.{put_mid}
+use borrow.Rule.Slice.PartMut.{put_mid, put_same}
 use Rattle.paper.specs.declared.Segment.{Segment}
 use Rattle.paper.specs.Words.{Axis, block_words, block_words_to}
 use Rattle.lists.specs.Parts.{win}
@@ -92,6 +92,26 @@ module _ (rs : List Segment) (axis : Axis) (near_first : Tidy rs axis) (xs ys : 
             join.built rs axis near_first (named (front xs)) ys m r (front_length xs) some same run.2.order ready y₁ e₀ e₁ f₁ e₂
             (is₂ ∙ ap (λ l. block_words rs axis (named l)) (front_is (m - r.cut) right right_long))
 
+    -- of one position: both blocks are empty, and come back as they were
+    module _ (alone : length y₁ ≡ 8) where
+      one : m ≡ 1
+      one = omega (arith, k₁, alone)
+
+      none_left : left ≡ block_words rs axis (named (front left))
+      none_left = none rs axis left (omega (arith, left_long, facts, one))
+
+      none_right : right left none_left ≡ block_words rs axis (named (front (right left none_left)))
+      none_right = none rs axis (right left none_left) (omega (arith, right_long left none_left, facts, one))
+
+      back_left : y₁ ≡ y₂ left none_left
+      back_left = sym (put_same (8 * r.stay) (8 * r.cut - 8 * r.stay) y₁)
+
+      built_alone : y₁ ≡ block_words rs axis (named (front xs))
+      built_alone =
+          back_left
+          ∙ sym (put_same (8 * r.cut) (length (y₂ left none_left) - 8 * r.cut) (y₂ left none_left))
+          ∙ built left none_left (right left none_left) none_right
+
 pub returns-then-is_empty : goal.returns-then-is_empty
 returns-then-is_empty t c =
     let z : length c.args.part.now ≡ 0 = search rules in
@@ -102,6 +122,13 @@ queues-requires t c =
     let a = c.args in
     let q = c.prepare-stay in
     queue_runs (records_in a.ends) (axis_in a.ends) (tidy a.ends) a.part.now q.new.part q.result c.requires (omega (arith, q.ensures.counts)) q.auto.part q.ensures.ready
+
+pub returns-then-part-eq8 : goal.returns-then-part-eq8
+returns-then-part-eq8 t c =
+    let a = c.args in
+    let q = c.prepare-stay in
+    built_alone (records_in a.ends) (axis_in a.ends) (tidy a.ends) a.part.now q.new.part q.result c.requires (omega (arith, q.ensures.counts)) q.auto.part q.ensures.ready
+    c.queues.new.part c.queues.ensures c.if-part-eq8.true
 
 pub block-requires : goal.block-requires
 block-requires t c =

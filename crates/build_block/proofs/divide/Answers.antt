@@ -1,13 +1,12 @@
 -- What the check leaves of `divide`.
-use Rattle.std.specs.Prelude.{◌≡◌, refl, List, ℕ, ◌+◌, ◌-◌, ◌*◌, ◌/◌, ◌≤◌, ◌<◌, ℤ, pos, length, get_or}
-use Rattle.std.specs.List.{copy_within}
+use Rattle.std.specs.Prelude.{◌≡◌, refl, List, ℕ, ◌/◌, ◌<◌, ℤ, pos, length, get_or}
 use Rattle.std.proofs.Common.{rules, sym, ap, ◌∙◌, arith, w32, SFits, to_z, of_z}
 use Rattle.std.proofs.Math.Seq.{get_or-take}
 use Rattle.std.proofs.lemmas.Int.{to_z-of_z}
 use Rattle.whole.specs.Whole.{kept}
 use Rattle.lists.specs.Plain.{to_nat}
 use Rattle.lists.specs.Maps.{map_at}
-use Rattle.lists.specs.Parts.{win, put, copied}
+use Rattle.lists.specs.Parts.{win}
 use Rattle.paper.specs.Words.{near_of}
 use Rattle.build_queue.specs.Ends.{records_in, axis_in}
 use Rattle.build_queue.specs.Runs.{named}
@@ -19,7 +18,7 @@ use Rattle.build_block.specs.Cutting.{middle_low}
 use Rattle.build_block.specs.Dividing as dividing
 use Rattle.build_block.proofs.divide.Goals as goal
 
-module _ (ends : Ends) (xs : List ℤ) (some : 0 < length xs / 8) (whole : length xs ≡ 8 * (length xs / 8)) where
+module _ (ends : Ends) (xs : List ℤ) (some : 0 < length xs / 8) where
   abbrev m : ℕ
   m = length xs / 8
 
@@ -31,12 +30,6 @@ module _ (ends : Ends) (xs : List ℤ) (some : 0 < length xs / 8) (whole : lengt
       ∙ ap (λ z. near_of (records_in ends) (axis_in ends) (to_nat z)) (sym (get_or-take m xs (m / 2) (pos 0) (omega (arith, some))))
       ∙ ap (near_of (records_in ends) (axis_in ends)) (sym (map_at to_nat (win 0 m xs) (m / 2) (pos 0)))
 
-  -- those that go right, moved
-  moved : (cut : ℕ) (ys : List ℤ) → cut ≤ length (named (front xs)) → ys ≡ copy_within xs cut m (8 * cut) → ys ≡ put (8 * cut) (win cut (m - cut) xs) xs
-  moved cut ys h e =
-      let k : m ≡ cut + (m - cut) = omega (arith, h, front_length xs) in
-      e ∙ ap (λ i. copy_within xs cut i (8 * cut)) k ∙ copied cut (8 * cut) (m - cut) xs (omega (arith, k, whole))
-
 pub reach-cut-requires-clause-low : goal.reach-cut-requires-clause-low
 unfolding win
 reach-cut-requires-clause-low c =
@@ -44,7 +37,7 @@ reach-cut-requires-clause-low c =
     let q = c.requires in
     let xs = a.part.now in
     let f : SFits w32 (get_or xs (length xs / 8 / 2) (pos 0)) = search rules in
-    let mid = middle a.ends xs q.0 q.1 (kept w32 _ c.near-centre.type_inv ∙ (rw (to_z-of_z w32 _ f) at c.near-centre.ensures)) in
+    let mid = middle a.ends xs q.0 (kept w32 _ c.near-centre.type_inv ∙ (rw (to_z-of_z w32 _ f) at c.near-centre.ensures)) in
     middle_low (records_in a.ends) (axis_in a.ends) (to_z w32 (of_z w32 c.near-centre.result)) (named (front xs)) (length xs / 8 / 2) q.2.order (omega (arith, q.0, front_length xs)) mid
 
 pub reach-cut-requires-clause-stands : goal.reach-cut-requires-clause-stands
@@ -59,8 +52,6 @@ returns c =
     let xs = a.part.now in
     let centre = to_z w32 (of_z w32 c.near-centre.result) in
     let f : SFits w32 (get_or xs (length xs / 8 / 2) (pos 0)) = search rules in
-    let mid = middle a.ends xs q.0 q.1 (kept w32 _ c.near-centre.type_inv ∙ (rw (to_z-of_z w32 _ f) at c.near-centre.ensures)) in
-    let moved_is = moved a.ends xs q.0 q.1 c.reach-cut.result c.copy_within.new.self c.reach-cut.ensures.cut.within c.copy_within.ensures.after in
-    dividing.divided (records_in a.ends) (axis_in a.ends) (tidy a.ends) (goes_left a.ends centre) (length xs / 8) c.reach-cut.result c.separate-stay.result centre xs c.copy_within.new.self c.separate-stay.new.part
-    q.0 q.1 q.2 mid (λ p. refl) c.reach-cut.ensures.cut moved_is c.separate-stay.ensures.part_after c.separate-stay.ensures.value c.copy_within-2.new.self
-    (c.copy_within-2.ensures.after ∙ copied c.reach-cut.result (8 * c.separate-stay.result) (c.reach-cut.result - c.separate-stay.result) c.separate-stay.new.part (omega (arith, c.reach-cut.ensures.cut.within, front_length xs, c.separate-stay.ensures.few, c.separate-stay.auto.part, c.copy_within.ensures.len, q.1)))
+    let mid = middle a.ends xs q.0 (kept w32 _ c.near-centre.type_inv ∙ (rw (to_z-of_z w32 _ f) at c.near-centre.ensures)) in
+    dividing.divided (records_in a.ends) (axis_in a.ends) (tidy a.ends) (goes_left a.ends centre) (length xs / 8) c.reach-cut.result c.separate-stay.result centre xs c.move_words.new.part c.separate-stay.new.part
+    q.0 q.1 q.2 mid (λ p. refl) c.reach-cut.ensures.cut c.move_words.ensures c.separate-stay.ensures.part_after c.separate-stay.ensures.value c.move_words-2.new.part c.move_words-2.ensures
