@@ -1,5 +1,5 @@
 -- What the check leaves of `meet_answer`.
-use Rattle.std.proofs.Common.{refl, sym, ◌∙◌, w64}
+use Rattle.std.proofs.Common.{rules, refl, sym, ◌∙◌, w64}
 use Rattle.std.proofs.lemmas.Int.{to_z-of_z}
 use Rattle.std.proofs.lemmas.Result.{err_from_is_err_and}
 use Rattle.paper.specs.Answers.{bad_window}
@@ -20,4 +20,4 @@ returns-then-far_off c =
 pub returns : goal.returns
 returns c =
     let a = c.args in
-    meet_0 a.segment a.window (none_first (bad_window a.window) c.in_ok-frame.ensures.decided) (sym c.far_off.ensures ∙ c.if-far_off.false) (rw c.in_ok-frame.ensures.frame at c.meets.ensures.0) (to_z-of_z w64 c.from.result (record { sfits = c.from.type_inv }) ∙ c.from.ensures ∙ one_or_none c.meets.result)
+    meet_0 a.segment a.window (none_first (bad_window a.window) c.in_ok-frame.ensures.decided) (sym c.far_off.ensures ∙ c.if-far_off.false) (search (rules, rw c.in_ok-frame.ensures.frame at c.meets.ensures.0)) (to_z-of_z w64 c.from.result (record { sfits = c.from.type_inv }) ∙ c.from.ensures ∙ one_or_none _)
