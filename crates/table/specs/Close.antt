@@ -76,26 +76,36 @@ module _ (d : Descriptor) (m : ℕ) where
           go (negsuc k) h g = absurd h.le
 
     -- no cell between them is beyond the limits, so no coordinate is
-    pub none_far : (table : List ℤ) {n w : ℕ} → n ≡ m + 1 → w ≡ end - first + 1 → end < length table
-        → any (λ k. not (coordinate_fits (get_or (take w (drop first table)) k (pos 0)))) (positions (length (take w (drop first table)))) ≡ false
-        → any (λ p. far_off (segment_of d table p)) (positions n) ≡ false
-    none_far table {n} {w} q u r none = any_none (λ p. far_off (segment_of d table p)) n near
-      where
-        and : Bool → Bool → Bool
-        and a b = a && b
+    module _ (table : List ℤ) where
+      pub none_far : {n : ℕ} → n ≡ m + 1 → any (λ k. not (coordinate_fits (get_or table (first + k) (pos 0)))) (positions (end - first + 1)) ≡ false
+          → any (λ p. far_off (segment_of d table p)) (positions n) ≡ false
+      none_far {n} q none = any_none (λ p. far_off (segment_of d table p)) n near
+        where
+          and : Bool → Bool → Bool
+          and a b = a && b
 
-        cell : (i j : ℕ) → i ≤ m → j ≤ 3 → coordinate_fits (get_or table (to_nat (cell_of d i j)) (pos 0)) ≡ true
-        cell i j h g =
-            let b = between i j h g in
-            let k : ℕ = to_nat (cell_of d i j) - first in
-            let s : first + k ≡ to_nat (cell_of d i j) = omega arith in
-            let l : k < w = omega arith in
-            let o = length-take-le w (drop first table) (simp length-drop (omega arith)) in
-            ap (λ a. coordinate_fits (get_or table a (pos 0))) (sym s)
-            ∙ ap coordinate_fits (sym (get_or-take w (drop first table) k (pos 0) l ∙ get_or-drop first table k (pos 0)))
-            ∙ not-false _ (none_at (λ k. not (coordinate_fits (get_or (take w (drop first table)) k (pos 0)))) _ k none (omega (arith, o)))
+          cell : (i j : ℕ) → i ≤ m → j ≤ 3 → coordinate_fits (get_or table (to_nat (cell_of d i j)) (pos 0)) ≡ true
+          cell i j h g =
+              let b = between i j h g in
+              let k : ℕ = to_nat (cell_of d i j) - first in
+              let s : first + k ≡ to_nat (cell_of d i j) = omega arith in
+              ap (λ a. coordinate_fits (get_or table a (pos 0))) (sym s)
+              ∙ not-false _ (none_at (λ k. not (coordinate_fits (get_or table (first + k) (pos 0)))) (end - first + 1) k none (omega arith))
 
-        near : (p : ℕ) → p < n → far_off (segment_of d table p) ≡ false
-        near p h =
-            let l : p ≤ m = omega arith in
-            ap not (ap₂ and (ap₂ and (ap₂ and (cell p 0 l (omega arith)) (cell p 1 l (omega arith))) (cell p 2 l (omega arith))) (cell p 3 l (omega arith)))
+          near : (p : ℕ) → p < n → far_off (segment_of d table p) ≡ false
+          near p h =
+              let l : p ≤ m = omega arith in
+              ap not (ap₂ and (ap₂ and (ap₂ and (cell p 0 l (omega arith)) (cell p 1 l (omega arith))) (cell p 2 l (omega arith))) (cell p 3 l (omega arith)))
+
+      -- the same of the slice that holds these cells and no others
+      pub none_far_in_slice : {n w : ℕ} → n ≡ m + 1 → w ≡ end - first + 1 → end < length table
+          → any (λ k. not (coordinate_fits (get_or (take w (drop first table)) k (pos 0)))) (positions (length (take w (drop first table)))) ≡ false
+          → any (λ p. far_off (segment_of d table p)) (positions n) ≡ false
+      none_far_in_slice {n} {w} q u r none = none_far q (any_none (λ k. not (coordinate_fits (get_or table (first + k) (pos 0)))) (end - first + 1) fits)
+        where
+          fits : (k : ℕ) → k < end - first + 1 → not (coordinate_fits (get_or table (first + k) (pos 0))) ≡ false
+          fits k l =
+              let b : k < w = omega arith in
+              let o = length-take-le w (drop first table) (simp length-drop (omega (arith, in_order))) in
+              ap (λ a. not (coordinate_fits a)) (sym (get_or-take w (drop first table) k (pos 0) b ∙ get_or-drop first table k (pos 0)))
+              ∙ none_at (λ k. not (coordinate_fits (get_or (take w (drop first table)) k (pos 0)))) _ k none (omega (arith, o))

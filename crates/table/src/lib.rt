@@ -1,5 +1,5 @@
 // A table by its descriptor: refusals 1 to 6 and 12, the cell of a position, its coordinates and segments, and W(n), said in the words of `paper`.
-// A caller tests `bad_kind`, `bad_lower`, `bad_extent`, `bad_strides` and `bad_cells` first; what passes the last three is `Held`, and may be read as a `Table`.
+// A caller asks `bad_kind`, `bad_lower`, `bad_extent`, `bad_strides` and, for answer 12, `first_outside` first; what passes the last three is `Held`, and may be read as a `Table`.
 #![tactic(auto)]
 
 ghost use Rattle.std.specs.Prelude.{◌≡◌, Bool, true, false, not, ℕ, ◌+◌, ◌*◌, ◌<◌, ◌≤◌, pos, length, get_or, IfSome};

@@ -1,5 +1,5 @@
 -- What the check leaves of `any_beyond`.
-use Rattle.std.specs.Prelude.{◌≡◌, Bool, ℕ, not, ◌||◌, pos, get_or}
+use Rattle.std.specs.Prelude.{Bool, ℕ, not, ◌||◌, pos, get_or}
 use Rattle.std.specs.Int.{w32}
 use Rattle.std.proofs.Common.{rules, sym, ap₂, ◌∙◌, SFits}
 use Rattle.std.proofs.lemmas.Int.{to_z-of_z}

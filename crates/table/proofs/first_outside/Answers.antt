@@ -32,4 +32,5 @@ returns-clause-answer c =
     let e = to_z-of_z w64 a.len c.ranges.len in
     let p = rw e at c.in_ok-position.ensures in
     let q = rw e at c.in_ok-coordinate.ensures in
-    first_cell a.len a.descriptor _ (Some (record { position = c.in_ok-position.position; coordinate = c.in_ok-coordinate.coordinate })) c.count-n.ensures.0 (p.0, p.1, q.0, q.1, q.2)
+    let placed = first_cell a.len a.descriptor _ (Some (record { position = c.in_ok-position.position; coordinate = c.in_ok-coordinate.coordinate })) c.count-n.ensures.0 (p.0, p.1, q.0, q.1, q.2) in
+    grind (arith, placed)

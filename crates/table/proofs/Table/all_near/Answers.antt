@@ -7,7 +7,7 @@ use Rattle.std.proofs.lemmas.Int.{to_z-of_z}
 use Rattle.paper.specs.Descriptor.{size_of, cell_of}
 use Rattle.paper.specs.declared.Descriptor.{Descriptor}
 use Rattle.table.specs.Cells.{low_end}
-use Rattle.table.specs.Close.{low_cell, high_cell, in_order, none_far}
+use Rattle.table.specs.Close.{low_cell, high_cell, in_order, none_far_in_slice}
 use Rattle.table.proofs.Table.all_near.Goals as goal
 
 -- where the cells begin, and the first cell and the last
@@ -40,4 +40,4 @@ returns c = λ e.
     let j = end_is 3 t c.low_end-j.ensures in
     let n : size_of d ≡ m + 1 = omega arith in
     let g : c.index-first.result ≤ c.index-end.result = in_order d m (first_is d m _ _ _ c.index-first.ensures.0 i j) (last_is d m _ _ _ c.index-end.ensures.0 i j) in
-    none_far d m (first_is d m _ _ _ c.index-first.ensures.0 i j) (last_is d m _ _ _ c.index-end.ensures.0 i j) c.args.self.cells.now n (omega arith) c.index-end.ensures.2 (sym c.any_beyond.ensures ∙ not-true _ e)
+    none_far_in_slice d m (first_is d m _ _ _ c.index-first.ensures.0 i j) (last_is d m _ _ _ c.index-end.ensures.0 i j) c.args.self.cells.now n (omega arith) c.index-end.ensures.2 (sym c.any_beyond.ensures ∙ not-true _ e)
