@@ -1,4 +1,5 @@
 -- What the check leaves of `slots`.
+use Rattle.std.specs.Prelude.{◌≡◌, Ok, Err}
 use Rattle.std.proofs.Common.{arith, sym}
 use Rattle.std.proofs.lemmas.Result.{err_from_is_err_and}
 use Rattle.std.proofs.lemmas.Int.{to_z-of_z}
@@ -20,12 +21,14 @@ pub returns-in_err-tally : goal.returns-in_err-tally
 returns-in_err-tally c =
     let a = c.loop-at in
     let p = err_from_is_err_and c.from_residual-in_err-tally.result c.from_residual-in_err-tally.ensures.1 in
-    rw p.1 (row_full _ _ _ _ _ _ _ _ a.at a.tally a.numbers a.invariant c.loop-at-test.true c.in_ok-q.q (sym c.in_ok-q.ensures.value) (grind (arith, to_z-of_z)) _ _ (rw c.seen-tally.ensures at c.in_err-tally.ensures))
+    let e : c.list.result ≡ Err c.in_err-tally.field-0.0 = grind arith in
+    rw p.1 (row_full _ _ _ _ _ _ _ _ a.at a.tally a.numbers a.invariant c.loop-at-test.true c.in_ok-q.q (sym c.in_ok-q.ensures.value) (grind (arith, to_z-of_z)) _ _ (rw (c.seen-tally.ensures, e) at c.list.ensures))
 
 pub loop-at-preserved : goal.loop-at-preserved
 loop-at-preserved c =
     let a = c.loop-at in
-    row_step _ _ _ _ _ _ _ _ a.at a.tally a.numbers a.invariant c.loop-at-test.true c.in_ok-q.q (sym c.in_ok-q.ensures.value) (grind (arith, to_z-of_z)) _ _ (rw c.seen-tally.ensures at c.in_ok-tally.ensures)
+    let e : c.list.result ≡ Ok c.in_ok-tally.tally = grind arith in
+    row_step _ _ _ _ _ _ _ _ a.at a.tally a.numbers a.invariant c.loop-at-test.true c.in_ok-q.q (sym c.in_ok-q.ensures.value) (grind (arith, to_z-of_z)) _ _ (rw (c.seen-tally.ensures, e) at c.list.ensures)
 
 pub returns : goal.returns
 returns c = let a = c.loop-at in row_end _ _ _ _ _ _ _ _ a.at a.tally a.numbers a.invariant c.loop-at-test.false (omega arith)
