@@ -74,7 +74,7 @@ fn move_words(part: &mut [i32], from: usize, n: usize, to: usize)
     requires { (from + n ≤ length part.old) × (to + n ≤ length part.old) }
     ensures { part.new ≡ put to (win from n part.old) part.old }
 {
-    // Calls that move nothing cost small tables a quarter.
+    // Calls that move nothing made builds of few segments slower.
     if n == 0 {
         return;
     }
@@ -162,7 +162,7 @@ pub fn block(ends: Ends, part: &mut [i32])
     }
     let Division { stay, cut, .. } = prepare(ends, part);
     queues(ends, part, stay);
-    // Both blocks of a part of one position are empty: calls that build nothing cost small tables a quarter.
+    // Both blocks of a part of one position are empty, and calls that build nothing made builds of few segments slower.
     if part.len() == 8 {
         return;
     }
